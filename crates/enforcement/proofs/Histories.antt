@@ -1,0 +1,28 @@
+-- Histories of lists of calls put together, and histories in which nothing was played.
+use mathlib.Core.Path.{_≡_, refl, ap, sym, _∙_, subst⁻¹}
+use mathlib.Core.List.{List, [], _∷_, _++_}
+use Prim.Native.Nat.{ℕ, zero, suc, _≤_}
+use native.Mathlib.Omega.{arith}
+use lib.ListN.{length, take, drop, length-map}
+use Rattle.enforcement.specs.Automaton.{Automaton}
+use Rattle.enforcement.specs.TimedWord.{Event}
+use Rattle.enforcement.specs.History.{History, Slot, eventOf, wordOf, fresh, schedule, Call, Outcome, HistoryOf, end, call}
+use Rattle.enforcement.specs.Constraints.{playedOf}
+use Rattle.enforcement.proofs.Constraints.{played-in-order}
+
+-- A history, and then another from its end.
+pub history-append : (a : Automaton) (h h′ h″ : History) (ks more : List Call) (os us : List Outcome) → HistoryOf a h ks os h′ → HistoryOf a h′ more us h″ → HistoryOf a h (ks ++ more) (os ++ us) h″
+history-append a h h′ h″ ks more os us end q = q
+history-append a h h′ h″ ks more os us (call {h′ = m} {ks = rest} {os = ps} x r) q = call x (history-append a m h′ h″ rest more ps us r q)
+
+take-none : (n : ℕ) (w : List Event) → take n w ≡ [] → n ≤ length w → n ≡ 0
+take-none zero w e l = refl
+take-none (suc n) [] e l = absurd (omega arith)
+take-none (suc n) (x ∷ w) e l = let z : _≡_ {A = ℕ} 0 1 = cc in absurd (omega arith)
+
+-- Where nothing was played, everything ever scheduled is in the schedule.
+pub none-played : (a : Automaton) (h : History) (ks : List Call) (os : List Outcome) → HistoryOf a (fresh a) ks os h → playedOf os ≡ [] → schedule h ≡ h .scheduled
+none-played a h ks os r e =
+    let p = played-in-order a h ks os r in
+    let l : h .played ≤ length (wordOf (h .scheduled)) = omega (arith, p .1, length-map (h .scheduled) eventOf) in
+    ap (λ (n : ℕ). drop n (h .scheduled)) (take-none (h .played) (wordOf (h .scheduled)) (sym (p .0) ∙ e) l)

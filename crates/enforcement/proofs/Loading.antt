@@ -1,0 +1,205 @@
+-- The check at loading is right, and what a sheet that loads is.
+-- Assumes nothing.
+use mathlib.Core.Path.{_≡_, refl, ap, sym, _∙_, subst}
+use mathlib.Core.Bool.{Bool, true, false, _&&_}
+use mathlib.Core.List.{[], _∷_}
+use mathlib.Core.Logic.{_⊎_, inl, inr, _↔_}
+use Prim.Native.Nat.{ℕ, suc, _+_, _*_, _^_, _≤_, _<_}
+use native.Mathlib.Omega.{arith}
+use native.Mathlib.Nat.{eq-or-lt-of-le}
+use lib.Dec.{T, leb, ltb}
+use lib.ListN.{length, getD}
+use lib.Count.{ones}
+use Rattle.enforcement.specs.Limits.{maxCount, maxTransitions, maxSize}
+use Rattle.enforcement.specs.Automaton.{Bytes, word, locations, actions, clocks, initial, accepting, allTransitions}
+use Rattle.enforcement.specs.Reason.{Reason, I-1, I-2, I-3, I-4, I-5, I-6, I-7, I-8, S-1, S-2, S-3, S-4, number}
+use Rattle.enforcement.specs.Loading.{HeaderFits, BitBeyond, Layout, AllFit, Holds, Given, Loads, countsOf, Checked, accepted, refused, sizePasses, headerPasses, initialPasses, layoutPasses, allFit, disjointOver, unless, check, CheckRight, Bounded, Deterministic}
+use Rattle.enforcement.proofs.Tests.{Tests, Finds, leb-tests, leb-finds, ltb-finds, both-tests, both-finds, tests-same, finds-same, finds-not, sure}
+use Rattle.enforcement.proofs.Bits.{bit-beyond, bit-large, countBelow, ones-count}
+use Rattle.enforcement.proofs.Pairs.{layout-tests}
+use Rattle.enforcement.proofs.Fitting.{all-fit-tests, all-bounded}
+use Rattle.enforcement.proofs.Overlaps.{overlap-finds}
+
+-- ---- The tests of I-1 to I-4; those of I-5 and I-6 are in Fitting.antt and Overlaps.antt.
+
+size-finds : (s : Bytes) → Finds (sizePasses s) (Holds I-1 s)
+unfolding sizePasses Holds
+size-finds s = both-finds (leb-finds 6 (length s)) (leb-finds (length s) maxSize)
+
+header-tests : (s : Bytes) → Tests (headerPasses s) (HeaderFits s)
+unfolding headerPasses
+header-tests s =
+    tests-same
+    (λ h. record { a-location = h .0 .0; locations-fit = h .0 .1; a-clock = h .1 .0 .0; clocks-fit = h .1 .0 .1; an-action = h .1 .1 .0; actions-fit = h .1 .1 .1 })
+    (λ h. ((h .a-location, h .locations-fit), ((h .a-clock, h .clocks-fit), (h .an-action, h .actions-fit))))
+    (both-tests (range 1 (locations s) maxCount) (both-tests (range 1 (clocks s) 2) (range 1 (actions s) maxCount)))
+  where
+    range : (a n b : ℕ) → Tests (leb a n && leb n b) ((a ≤ n) × (n ≤ b))
+    range a n b = both-tests (leb-tests a n) (leb-tests n b)
+
+bits-finds : (s : Bytes) → Finds (ltb (word s 4) (2 ^ locations s)) (BitBeyond s)
+bits-finds s = finds-same (bit-beyond (locations s) (word s 4)) (λ h. bit-large (locations s) (word s 4) (h .0) (h .1) (h .2)) (ltb-finds (word s 4) (2 ^ locations s))
+
+initial-finds : (s : Bytes) → Finds (initialPasses s) (Holds I-3 s)
+unfolding initialPasses Holds
+initial-finds s = both-finds (ltb-finds (initial s) (locations s)) (bits-finds s)
+
+layout-finds : (s : Bytes) → Finds (layoutPasses s) (Holds I-4 s)
+unfolding layoutPasses Holds
+layout-finds s = both-finds (leb-finds (6 + 4 * locations s) (length s)) (both-finds (finds-not (layout-tests s)) (leb-finds (length (allTransitions s)) maxTransitions))
+
+-- ---- The reasons in order
+
+-- A reason by its number; 0 is no reason's.
+abbrev named : ℕ → Reason
+named n = getD (I-1 ∷ I-1 ∷ I-2 ∷ I-3 ∷ I-4 ∷ I-5 ∷ I-6 ∷ I-7 ∷ I-8 ∷ S-1 ∷ S-2 ∷ S-3 ∷ S-4 ∷ []) n I-1
+
+named-number : (r : Reason) → named (number r) ≡ r
+named-number I-1 = refl
+named-number I-2 = refl
+named-number I-3 = refl
+named-number I-4 = refl
+named-number I-5 = refl
+named-number I-6 = refl
+named-number I-7 = refl
+named-number I-8 = refl
+named-number S-1 = refl
+named-number S-2 = refl
+named-number S-3 = refl
+named-number S-4 = refl
+
+number-same : (q r : Reason) → number q ≡ number r → q ≡ r
+number-same q r e = sym (named-number q) ∙ ap named e ∙ named-number r
+
+-- No reason numbered below n has its condition.
+abbrev Before : ℕ → Bytes → Type 0
+Before n s = (q : Reason) → number q < n → Holds q s → ⊥
+
+-- An answer that is right.
+data Right (s : Bytes) : Checked → Type 0 where
+  loads : Loads s → Right s (accepted (countsOf s))
+  refuses : (r : Reason) → Given r s → Right s (refused r)
+
+-- One test of the chain: it answers, or those after it do.
+unless-right : (s : Bytes) (b : Bool) (r : Reason) (k : Checked) → Finds b (Holds r s) → Before (number r) s → (b ≡ true → Before (suc (number r)) s → Right s k) → Right s (unless b r k)
+unless-right s true r k f h g = g refl (λ q a c. elim (eq-or-lt-of-le a) [ inl e ↦ f .passes refl (subst (λ (x : Reason). Holds x s) (number-same q r (omega arith)) c) | inr e ↦ h q (omega arith) c ])
+unless-right s false r k f h g = refuses r (record { holds = f .fails refl; none-earlier = h })
+
+none-left : (s : Bytes) → Before 7 s → Loads s
+unfolding Holds
+none-left s h I-1 = h I-1 (omega arith)
+none-left s h I-2 = h I-2 (omega arith)
+none-left s h I-3 = h I-3 (omega arith)
+none-left s h I-4 = h I-4 (omega arith)
+none-left s h I-5 = h I-5 (omega arith)
+none-left s h I-6 = h I-6 (omega arith)
+none-left s h I-7 = λ x. x
+none-left s h I-8 = λ x. x
+none-left s h S-1 = λ x. x
+none-left s h S-2 = λ x. x
+none-left s h S-3 = λ x. x
+none-left s h S-4 = λ x. x
+
+none-first : (s : Bytes) → Before (number I-1) s
+none-first s q h =
+    let e : number q ≡ 0 = omega arith in
+    let k : number I-1 ≡ number q = ap number (ap named (sym e) ∙ named-number q) in
+    absurd (omega arith)
+
+check-is : (s : Bytes) → Right s (check s)
+unfolding check Holds
+check-is s =
+    unless-right s (sizePasses s) I-1 _ (size-finds s) (none-first s) λ a1 b1.
+    unless-right s (headerPasses s) I-2 _ (finds-not (header-tests s)) b1 λ a2 b2.
+    unless-right s (initialPasses s) I-3 _ (initial-finds s) b2 λ a3 b3.
+    unless-right s (layoutPasses s) I-4 _ (layout-finds s) b3 λ a4 b4.
+    unless-right s (allFit s (allTransitions s)) I-5 _ (finds-not (all-fit-tests s (allTransitions s))) b4 λ a5 b5.
+    unless-right s (disjointOver s (locations s) 0) I-6 _ (overlap-finds s (all-fit-tests s (allTransitions s) .passes a5)) b5 λ a6 b6.
+    loads (none-left s b6)
+
+-- Two reasons do not both come first.
+given-same : (s : Bytes) (q r : Reason) → Given q s → Given r s → q ≡ r
+given-same s q r g h =
+    let a : ¬ (number q < number r) = λ k. h .none-earlier q k (g .holds) in
+    let b : ¬ (number r < number q) = λ k. g .none-earlier r k (h .holds) in
+    number-same q r (omega arith)
+
+answers-differ : (s : Bytes) (r : Reason) {A : Type 0} → accepted (countsOf s) ≡ refused r → A
+answers-differ s r e = let z : _≡_ {A = ℕ} 0 1 = cc in absurd (omega arith)
+
+refused-given : (s : Bytes) (k : Checked) → Right s k → (r : Reason) → (k ≡ refused r) ↔ Given r s
+refused-given s k (loads h) r = (answers-differ s r, λ g. absurd (h r (g .holds)))
+refused-given s k (refuses q h) r = (λ e. let z : q ≡ r = cc in subst (λ (x : Reason). Given x s) z h, λ g. ap refused (given-same s q r h g))
+
+accepted-loads : (s : Bytes) (k : Checked) → Right s k → (k ≡ accepted (countsOf s)) ↔ Loads s
+accepted-loads s k (loads h) = (λ e. h, λ e. refl)
+accepted-loads s k (refuses q h) = (λ e. answers-differ s q (sym e), λ l. absurd (l q (h .holds)))
+
+either-answer : (s : Bytes) (k : Checked) → Right s k → (k ≡ accepted (countsOf s)) ⊎ ((r : Reason) × (k ≡ refused r))
+either-answer s k (loads h) = inl refl
+either-answer s k (refuses q h) = inr (q, refl)
+
+pub check-right : (s : Bytes) → CheckRight s
+check-right s = record { refuses = refused-given s (check s) (check-is s); accepts = accepted-loads s (check s) (check-is s); one-of = either-answer s (check s) (check-is s) }
+
+-- ---- A sheet that loads
+
+module _ (s : Bytes) where
+  pub loads-check : Loads s → check s ≡ accepted (countsOf s)
+  loads-check = check-right s .accepts .1
+
+  pub check-loads : check s ≡ accepted (countsOf s) → Loads s
+  check-loads = check-right s .accepts .0
+
+  pub size-fits : Loads s → (6 ≤ length s) × (length s ≤ maxSize)
+  unfolding Holds
+  size-fits h =
+      let a : ¬ (length s < 6) = λ k. h I-1 (inl k) in
+      let b : ¬ (maxSize < length s) = λ k. h I-1 (inr k) in
+      (omega arith, omega arith)
+
+  pub header : Loads s → HeaderFits s
+  unfolding Holds
+  header h = sure (header-tests s) (h I-2)
+
+  pub initial-fits : Loads s → initial s < locations s
+  unfolding Holds
+  initial-fits h = let a : ¬ (locations s ≤ initial s) = λ k. h I-3 (inl k) in omega arith
+
+  -- An accepting location is one of the sheet's.
+  pub accepting-fits : Loads s → (l : ℕ) → T (accepting s l) → l < locations s
+  unfolding Holds
+  accepting-fits h l t = let a : ¬ (locations s ≤ l) = λ k. h I-3 (inr (l, k, t)) in omega arith
+
+  pub layout : Loads s → Layout s
+  unfolding Holds
+  layout h = sure (layout-tests s) (λ k. h I-4 (inr (inl k)))
+
+  pub pairs-fit : Loads s → 6 + 4 * locations s ≤ length s
+  unfolding Holds
+  pairs-fit h = let a : ¬ (length s < 6 + 4 * locations s) = λ k. h I-4 (inl k) in omega arith
+
+  pub transitions-fit : Loads s → length (allTransitions s) ≤ maxTransitions
+  unfolding Holds
+  transitions-fit h = let a : ¬ (maxTransitions < length (allTransitions s)) = λ k. h I-4 (inr (inr k)) in omega arith
+
+  pub all-fit : Loads s → AllFit s (allTransitions s)
+  unfolding Holds
+  all-fit h = sure (all-fit-tests s (allTransitions s)) (h I-5)
+
+  pub bounded : Loads s → Bounded s
+  bounded h = all-bounded s (all-fit h)
+
+  pub deterministic : Loads s → Deterministic s
+  unfolding Holds Deterministic
+  deterministic h l k = h I-6 (l, k)
+
+  -- How many of the locations below n are accepting.
+  abbrev pub countAccepting : ℕ → ℕ
+  countAccepting n = countBelow (accepting s) n
+
+  pub accepting-counted : Loads s → ones (word s 4) ≡ countAccepting (locations s)
+  unfolding Holds
+  accepting-counted h =
+      let a : ¬ (2 ^ locations s ≤ word s 4) = λ k. h I-3 (inr (bit-beyond (locations s) (word s 4) k)) in
+      ones-count (word s 4) (locations s) (omega arith)

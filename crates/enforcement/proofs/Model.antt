@@ -1,0 +1,75 @@
+-- The model of an automaton's monitor is right, whatever the calls.
+use mathlib.Core.Path.{_≡_, refl}
+use mathlib.Core.Bool.{Bool, true, false}
+use mathlib.Core.List.{List, [], _∷_, _++_}
+use mathlib.Core.Logic.{_↔_}
+use Prim.Native.Nat.{ℕ}
+use native.Mathlib.Omega.{arith}
+use Rattle.enforcement.specs.Automaton.{Automaton}
+use Rattle.enforcement.specs.TimedWord.{origin}
+use Rattle.enforcement.specs.Loading.{Bounded}
+use Rattle.enforcement.specs.History.{History, wordOf, fresh, Call, Dark, Schedulable}
+use Rattle.enforcement.specs.Model.{Compiled, compile}
+use Rattle.enforcement.specs.Monitor.{Monitor, freshMonitor, lampLit, answer, replay}
+use Rattle.enforcement.specs.Demands.{StandsFor, Demand2, calls}
+use Rattle.enforcement.proofs.Compilation.{compiled}
+use Rattle.enforcement.proofs.Decision.{correctable}
+use Rattle.enforcement.proofs.Simulation
+use Rattle.enforcement.proofs.Simulation.{Follows}
+use Rattle.enforcement.proofs.Progress.{Decides, history-uncorrected, fresh-uncorrected, schedulable-dark, dark-schedulable}
+
+-- A longer list of calls goes on from the monitor that the first calls left.
+pub replay-append : (m : Compiled) (ks more : List Call) (b : Monitor) → replay m b (ks ++ more) .monitor ≡ replay m (replay m b ks .monitor) more .monitor
+unfolding replay
+replay-append m [] more b = refl
+replay-append m (k ∷ ks) more b = replay-append m ks more (answer m b k .monitor)
+
+pub fresh-stands : (𝒜 : Automaton) → StandsFor 𝒜 (freshMonitor 𝒜) (fresh 𝒜)
+fresh-stands 𝒜 = record { date-is = refl; pending-is = refl; schedule-is = refl; played-fits = omega arith; exact = origin 𝒜; reaches = (refl, refl); configuration-is = refl }
+
+module _ (𝒜 : Automaton) (bounded : Bounded (𝒜 .bytes)) where
+  -- On a monitor that stands for a history, a call answers as the history.
+  pub answers : (ℋ : History) (b : Monitor) → StandsFor 𝒜 b ℋ → (k : Call) → Demand2 𝒜 ℋ k (answer (compile 𝒜) b k)
+  answers = Simulation.answer-right 𝒜 bounded (compile 𝒜) (compiled 𝒜 bounded)
+
+  -- So does a list of calls.
+  pub follows : (ks : List Call) (ℋ : History) (b : Monitor) → StandsFor 𝒜 b ℋ → Follows 𝒜 ℋ ks (replay (compile 𝒜) b ks)
+  follows = Simulation.replay-right 𝒜 bounded (compile 𝒜) (compiled 𝒜 bounded)
+
+  -- For every list of calls from a fresh monitor: the outcomes are the history's, and the monitor stands for it.
+  pub right : (ks : List Call) → Follows 𝒜 (fresh 𝒜) ks (calls 𝒜 ks)
+  right ks = follows ks (fresh 𝒜) (freshMonitor 𝒜) (fresh-stands 𝒜)
+
+  -- The lamp of a monitor that stands for a history is lit exactly when the lamp rule does not say dark.
+  pub lit-shows : (ℋ : History) (b : Monitor) → StandsFor 𝒜 b ℋ → lampLit (compile 𝒜) b ≡ true → Dark 𝒜 ℋ → ⊥
+  lit-shows = Simulation.lit-shows 𝒜 bounded (compile 𝒜) (compiled 𝒜 bounded)
+
+  pub dark-shows : (ℋ : History) (b : Monitor) → StandsFor 𝒜 b ℋ → lampLit (compile 𝒜) b ≡ false → Dark 𝒜 ℋ
+  dark-shows = Simulation.dark-shows 𝒜 bounded (compile 𝒜) (compiled 𝒜 bounded)
+
+  pub not-dark-lit : (ℋ : History) (b : Monitor) → StandsFor 𝒜 b ℋ → (Dark 𝒜 ℋ → ⊥) → lampLit (compile 𝒜) b ≡ true
+  not-dark-lit ℋ b s f = go (lampLit (compile 𝒜) b) refl
+    where
+      go : (u : Bool) → lampLit (compile 𝒜) b ≡ u → u ≡ true
+      go true e = refl
+      go false e = absurd (f (dark-shows ℋ b s e))
+
+  pub dark-not-lit : (ℋ : History) (b : Monitor) → StandsFor 𝒜 b ℋ → Dark 𝒜 ℋ → lampLit (compile 𝒜) b ≡ false
+  dark-not-lit ℋ b s g = go (lampLit (compile 𝒜) b) refl
+    where
+      go : (u : Bool) → lampLit (compile 𝒜) b ≡ u → u ≡ false
+      go true e = absurd (lit-shows ℋ b s e g)
+      go false e = refl
+
+  decides : (ℋ : History) (b : Monitor) → StandsFor 𝒜 b ℋ → (t : ℕ) → Decides 𝒜 (wordOf (ℋ .scheduled)) t
+  unfolding Decides
+  decides ℋ b s t cs n = correctable 𝒜 bounded (compile 𝒜) (compiled 𝒜 bounded) (wordOf (ℋ .scheduled)) (b .last) (s .exact) (s .reaches) t cs n
+
+  -- After a list of calls, the lamp rule says dark exactly when one more action can be scheduled.
+  pub dark-is : (ks : List Call) → Dark 𝒜 (right ks .history) ↔ Schedulable 𝒜 (right ks .history)
+  dark-is ks =
+      let z = right ks in (
+        dark-schedulable 𝒜 (z .history) (decides (z .history) (calls 𝒜 ks .monitor) (z .stands) (z .history .date))
+            (history-uncorrected 𝒜 (fresh 𝒜) (z .history) ks (calls 𝒜 ks .outcomes) (z .recorded) (fresh-uncorrected 𝒜)),
+        schedulable-dark 𝒜 (z .history),
+      )

@@ -1,0 +1,207 @@
+-- The model of a monitor answers as the history, call by call.
+use mathlib.Core.Path.{_≡_, refl, ap, sym, _∙_, subst, subst⁻¹}
+use mathlib.Core.Bool.{Bool, true, false, cond}
+use mathlib.Core.List.{List, [], _∷_, _++_}
+use Prim.Native.Nat.{ℕ, zero, suc, _+_, _≤_, max}
+use native.Mathlib.Omega.{arith}
+use lib.Dec.{leb, ltb}
+use lib.ListN.{length, drop, length-append}
+use lib.Seq.{drop-append-le}
+use borrow.Author.Tests.{leb-true, leb-false, ltb-true, ltb-false}
+use Rattle.enforcement.specs.Limits.{maxCount, maxDate}
+use Rattle.enforcement.specs.Automaton.{Automaton}
+use Rattle.enforcement.specs.TimedWord.{Configuration, Event, lastOf}
+use Rattle.enforcement.specs.Reason.{I-7, I-8, S-1, S-2, S-3, S-4}
+use Rattle.enforcement.specs.Loading.{Bounded}
+use Rattle.enforcement.specs.History.{Request, Slot, actionsOf, wordOf, place, History, schedule, freeSlots, Call, offer, collect, lamp, Outcome, scheduled, dropped, played, nothing, lit, dark, refused, joined, Passes, Chosen, Uncorrectable, IsOpen, afterSchedule, afterHold, afterDate, afterPlay, Dark, Answers, unknown, late, past, too-late, no-place, Answers.schedules, full, Answers.holds, Answers.drops, late-collect, past-collect, plays, too-early, empty, is-dark, is-lit, HistoryOf, end, call}
+use Rattle.enforcement.specs.Model.{Prospect, ticks, extensible, dead, Compiled, prospect, dates, saturated, oneClock}
+use Rattle.enforcement.specs.Monitor.{Monitor, placed, kept, decided, checked, offered, taken, oldest, picked, collected, lampLit, answer, Replayed, replay}
+use Rattle.enforcement.specs.Demands.{Reaches, StandsFor, Demand2}
+use Rattle.enforcement.proofs.Slots.{actions-length, word-append, word-place}
+use Rattle.enforcement.proofs.Runs.{NonEmpty}
+use Rattle.enforcement.proofs.Corrections.{best-least}
+use Rattle.enforcement.proofs.Compilation.{CompiledFrom}
+use Rattle.enforcement.proofs.Decision
+use Rattle.enforcement.proofs.Decision.{standingAt}
+use Rattle.enforcement.proofs.Lamp.{lit-right, dark-right}
+
+-- The monitor that stands for a history, where everything ever scheduled reaches the date last and the configuration q.
+abbrev pub monitorOf : Automaton → History → ℕ → Configuration → Monitor
+monitorOf 𝒜 ℋ last q = record { date = ℋ .date; pending = ℋ .pending; schedule = schedule ℋ; configuration = saturated (oneClock 𝒜) q; last = last }
+
+pub joined-nonEmpty : (rs : List Request) (c : ℕ) → NonEmpty (actionsOf (rs ++ (record { action = c } ∷ [])))
+joined-nonEmpty [] c = tt
+joined-nonEmpty (r ∷ rs) c = tt
+
+drop-next : (n : ℕ) (w : List Slot) (e : Slot) (rest : List Slot) → drop n w ≡ e ∷ rest → (drop (suc n) w ≡ rest) × (suc n ≤ length w)
+drop-next zero [] e rest h = absurd (let x : _≡_ {A = ℕ} 0 1 = cc in omega arith)
+drop-next zero (f ∷ w) e rest h = (cc, omega arith)
+drop-next (suc n) [] e rest h = absurd (let x : _≡_ {A = ℕ} 0 1 = cc in omega arith)
+drop-next (suc n) (f ∷ w) e rest h = (drop-next n w e rest h .0, omega (arith, drop-next n w e rest h .1))
+
+module _ (𝒜 : Automaton) (bounded : Bounded (𝒜 .bytes)) (m : Compiled) (mine : CompiledFrom 𝒜 m) (ℋ : History) (played-fits : ℋ .played ≤ length (ℋ .scheduled)) (last : ℕ) (q : Configuration) (reaches : Reaches 𝒜 (wordOf (ℋ .scheduled)) last q) where
+  abbrev monitor : Monitor
+  monitor = monitorOf 𝒜 ℋ last q
+
+  -- A history with nothing more scheduled, and the monitor that stands for it.
+  stands : (t : ℕ) (rs : List Request) → StandsFor 𝒜 (record { date = t; pending = rs; schedule = schedule ℋ; configuration = monitor .configuration; last = last }) (record { date = t; scheduled = ℋ .scheduled; pending = rs; played = ℋ .played })
+  stands t rs = record { date-is = refl; pending-is = refl; schedule-is = refl; played-fits = played-fits; exact = q; reaches = reaches; configuration-is = refl }
+
+  -- Nothing moves.
+  stays : (k : Call) (o : Outcome) → Answers 𝒜 ℋ k o ℋ → Demand2 𝒜 ℋ k (record { outcome = o; monitor = monitor })
+  stays k o h = record { history = ℋ; answers = h; stands = stands (ℋ .date) (ℋ .pending) }
+
+  -- Only the date moves.
+  moves : (k : Call) (o : Outcome) (t : ℕ) → Answers 𝒜 ℋ k o (afterDate ℋ t) → Demand2 𝒜 ℋ k (record { outcome = o; monitor = monitorOf 𝒜 (afterDate ℋ t) last q })
+  moves k o t h = record { history = afterDate ℋ t; answers = h; stands = stands t (ℋ .pending) }
+
+  -- ---- Offers
+
+  module _ (c t : ℕ) where
+    abbrev word : List Event
+    word = wordOf (ℋ .scheduled)
+
+    abbrev cs : List ℕ
+    cs = actionsOf (joined ℋ c)
+
+    abbrev earliest : ℕ
+    earliest = max t last
+
+    abbrev standing : Configuration
+    standing = standingAt 𝒜 last q t
+
+    abbrev ds : List ℕ
+    ds = dates m cs standing earliest
+
+    nonEmpty : NonEmpty cs
+    nonEmpty = joined-nonEmpty (ℋ .pending) c
+
+    place-right : Passes 𝒜 ℋ c t → (n : ℕ) → prospect m cs standing ≡ ticks n → (u v : Bool) → ltb maxDate (earliest + n) ≡ u → ltb (freeSlots ℋ) (length (joined ℋ c)) ≡ v
+        → Demand2 𝒜 ℋ (offer c t) (placed m monitor c t ds (earliest + n) u v)
+    unfolding placed
+    place-right p n e u v x y = go u v x y (Decision.best 𝒜 bounded m mine word last q reaches t cs nonEmpty n e)
+      where
+        go : (u v : Bool) → ltb maxDate (earliest + n) ≡ u → ltb (freeSlots ℋ) (length (joined ℋ c)) ≡ v → Chosen 𝒜 ℋ c t ds × (lastOf 0 ds ≡ earliest + n)
+            → Demand2 𝒜 ℋ (offer c t) (placed m monitor c t ds (earliest + n) u v)
+        go true v x y be =
+            stays (offer c t) (refused S-2) (too-late p (be .0 .correction) (λ es h. omega (arith, be .1, best-least (be .0) es h, ltb-true maxDate (earliest + n) x)))
+        go false true x y be =
+            stays (offer c t) (refused S-3)
+            (no-place p (be .0) (omega (arith, be .1, ltb-false maxDate (earliest + n) x))
+            (omega (arith, be .0 .correction .timing .each, actions-length (joined ℋ c), ltb-true (freeSlots ℋ) (length (joined ℋ c)) y)))
+        go false false x y be =
+            let la = Decision.lands 𝒜 bounded m mine word last q reaches t cs nonEmpty ds (earliest + n) (be .0 .correction) (be .1) in
+            record {
+              history = afterSchedule ℋ c t ds;
+              answers = subst (λ (l : ℕ). Answers 𝒜 ℋ (offer c t) (scheduled (length ds) l) (afterSchedule ℋ c t ds)) (be .1)
+                  (Answers.schedules p (be .0) (omega (arith, be .1, ltb-false maxDate (earliest + n) x))
+                  (omega (arith, be .0 .correction .timing .each, actions-length (joined ℋ c), ltb-false (freeSlots ℋ) (length (joined ℋ c)) y)));
+              stands = record {
+                date-is = refl;
+                pending-is = refl;
+                schedule-is = sym (drop-append-le (ℋ .played) (ℋ .scheduled) (place (joined ℋ c) ds) played-fits);
+                played-fits = omega (arith, length-append (ℋ .scheduled) (place (joined ℋ c) ds));
+                exact = la .0;
+                reaches = subst⁻¹ (λ (w : List Event). Reaches 𝒜 w (earliest + n) (la .0)) (word-append (ℋ .scheduled) (place (joined ℋ c) ds) ∙ ap (λ (v : List Event). word ++ v) (word-place (joined ℋ c) ds)) (la .1);
+                configuration-is = la .2;
+              };
+            }
+
+    decide-right : Passes 𝒜 ℋ c t → (a : Prospect) → prospect m cs standing ≡ a → Demand2 𝒜 ℋ (offer c t) (decided m monitor c t (dates m cs) a)
+    unfolding decided kept
+    decide-right p (ticks n) e = place-right p n e (ltb maxDate (earliest + n)) (ltb (freeSlots ℋ) (length (joined ℋ c))) refl refl
+    decide-right p extensible e = go (leb maxCount (length (ℋ .pending))) refl
+        (Decision.none-extensible 𝒜 bounded m mine word last q reaches t cs nonEmpty e) (Decision.extensible-open 𝒜 bounded m mine word last q reaches t cs nonEmpty e)
+      where
+        go : (u : Bool) → leb maxCount (length (ℋ .pending)) ≡ u → Uncorrectable 𝒜 ℋ c t → IsOpen 𝒜 ℋ c t → Demand2 𝒜 ℋ (offer c t) (kept monitor c t u)
+        go true x un op = stays (offer c t) (refused S-4) (full p un op (leb-true maxCount (length (ℋ .pending)) x))
+        go false x un op = record { history = afterHold ℋ c t; answers = Answers.holds p un op (leb-false maxCount (length (ℋ .pending)) x); stands = stands t (joined ℋ c) }
+    decide-right p dead e =
+        moves (offer c t) dropped t
+        (Answers.drops p (Decision.none-dead 𝒜 bounded m mine word last q reaches t cs nonEmpty e) (Decision.dead-shut 𝒜 bounded m mine word last q reaches t cs nonEmpty e))
+
+    check-right : (u v w : Bool) → ltb c (m .known) ≡ u → ltb maxDate t ≡ v → ltb t (ℋ .date) ≡ w → Demand2 𝒜 ℋ (offer c t) (checked m monitor c t u v w)
+    unfolding checked
+    check-right false v w e f g = stays (offer c t) (refused I-7) (unknown (omega (arith, mine .known-is, ltb-false c (m .known) e)))
+    check-right true true w e f g = stays (offer c t) (refused I-8) (late (omega (arith, mine .known-is, ltb-true c (m .known) e)) (ltb-true maxDate t f))
+    check-right true false true e f g = stays (offer c t) (refused S-1) (past (omega (arith, mine .known-is, ltb-true c (m .known) e)) (ltb-false maxDate t f) (ltb-true t (ℋ .date) g))
+    check-right true false false e f g =
+        decide-right (record { known = omega (arith, mine .known-is, ltb-true c (m .known) e); early = ltb-false maxDate t f; current = ltb-false t (ℋ .date) g }) (prospect m cs standing) refl
+
+  -- ---- Collects
+
+  module _ (t : ℕ) where
+    take-right : t ≤ maxDate → ℋ .date ≤ t → (e : Slot) (rest : List Slot) → schedule ℋ ≡ e ∷ rest → (u : Bool) → leb (e .date) t ≡ u → Demand2 𝒜 ℋ (collect t) (taken monitor t e rest u)
+    unfolding taken
+    take-right h k e rest x true y =
+        let d = drop-next (ℋ .played) (ℋ .scheduled) e rest x in
+        record {
+          history = afterPlay ℋ t;
+          answers = plays h k x (leb-true (e .date) t y);
+          stands = record { date-is = refl; pending-is = refl; schedule-is = sym (d .0); played-fits = d .1; exact = q; reaches = reaches; configuration-is = refl };
+        }
+    take-right h k e rest x false y = moves (collect t) nothing t (too-early h k x (leb-false (e .date) t y))
+
+    oldest-right : t ≤ maxDate → ℋ .date ≤ t → (l : List Slot) → schedule ℋ ≡ l → Demand2 𝒜 ℋ (collect t) (oldest monitor t l)
+    unfolding oldest
+    oldest-right h k [] x = moves (collect t) nothing t (empty h k x)
+    oldest-right h k (e ∷ rest) x = take-right h k e rest x (leb (e .date) t) refl
+
+    pick-right : (u v : Bool) → ltb maxDate t ≡ u → ltb t (ℋ .date) ≡ v → Demand2 𝒜 ℋ (collect t) (picked monitor t u v)
+    unfolding picked
+    pick-right true v x y = stays (collect t) (refused I-8) (late-collect (ltb-true maxDate t x))
+    pick-right false true x y = stays (collect t) (refused S-1) (past-collect (ltb-false maxDate t x) (ltb-true t (ℋ .date) y))
+    pick-right false false x y = oldest-right (ltb-false maxDate t x) (ltb-false t (ℋ .date) y) (schedule ℋ) refl
+
+  -- ---- The lamp
+
+  of-lit : lampLit m monitor ≡ true → Dark 𝒜 ℋ → ⊥
+  unfolding lampLit
+  of-lit e = lit-right 𝒜 bounded m mine (wordOf (ℋ .scheduled)) last q reaches (ℋ .date) (actionsOf (ℋ .pending)) e
+
+  of-dark : lampLit m monitor ≡ false → Dark 𝒜 ℋ
+  unfolding lampLit
+  of-dark e = dark-right 𝒜 bounded m mine (wordOf (ℋ .scheduled)) last q reaches (ℋ .date) (actionsOf (ℋ .pending)) e
+
+  lamp-right : (u : Bool) → lampLit m monitor ≡ u → Demand2 𝒜 ℋ lamp (record { outcome = cond u lit dark; monitor = monitor })
+  lamp-right true e = stays lamp lit (is-lit (of-lit e))
+  lamp-right false e = stays lamp dark (is-dark (of-dark e))
+
+  answer-of : (k : Call) → Demand2 𝒜 ℋ k (answer m monitor k)
+  unfolding answer offered collected
+  answer-of (offer c t) = check-right c t (ltb c (m .known)) (ltb maxDate t) (ltb t (ℋ .date)) refl refl refl
+  answer-of (collect t) = pick-right t (ltb maxDate t) (ltb t (ℋ .date)) refl refl
+  answer-of lamp = lamp-right (lampLit m monitor) refl
+
+-- ---- Any monitor that stands for a history
+
+stands-is : (𝒜 : Automaton) (ℋ : History) (b : Monitor) (s : StandsFor 𝒜 b ℋ) → b ≡ monitorOf 𝒜 ℋ (b .last) (s .exact)
+stands-is 𝒜 ℋ b s = λ i. record { date = s .date-is i; pending = s .pending-is i; schedule = s .schedule-is i; configuration = s .configuration-is i; last = b .last }
+
+-- The history of a list of calls on a monitor, and that the monitor after them stands for it.
+pub record Follows (𝒜 : Automaton) (ℋ : History) (ks : List Call) (z : Replayed) : Type 0 where
+  pub history : History
+  pub recorded : HistoryOf 𝒜 ℋ ks (z .outcomes) history
+  pub stands : StandsFor 𝒜 (z .monitor) history
+
+module _ (𝒜 : Automaton) (bounded : Bounded (𝒜 .bytes)) (m : Compiled) (mine : CompiledFrom 𝒜 m) where
+  pub answer-right : (ℋ : History) (b : Monitor) → StandsFor 𝒜 b ℋ → (k : Call) → Demand2 𝒜 ℋ k (answer m b k)
+  answer-right ℋ b s k =
+      subst⁻¹ (λ (z : Monitor). Demand2 𝒜 ℋ k (answer m z k)) (stands-is 𝒜 ℋ b s) (answer-of 𝒜 bounded m mine ℋ (s .played-fits) (b .last) (s .exact) (s .reaches) k)
+
+  -- The lamp is lit exactly when the lamp rule does not say dark.
+  pub lit-shows : (ℋ : History) (b : Monitor) → StandsFor 𝒜 b ℋ → lampLit m b ≡ true → Dark 𝒜 ℋ → ⊥
+  lit-shows ℋ b s e =
+      of-lit 𝒜 bounded m mine ℋ (s .played-fits) (b .last) (s .exact) (s .reaches) (subst (λ (z : Monitor). lampLit m z ≡ true) (stands-is 𝒜 ℋ b s) e)
+
+  pub dark-shows : (ℋ : History) (b : Monitor) → StandsFor 𝒜 b ℋ → lampLit m b ≡ false → Dark 𝒜 ℋ
+  dark-shows ℋ b s e =
+      of-dark 𝒜 bounded m mine ℋ (s .played-fits) (b .last) (s .exact) (s .reaches) (subst (λ (z : Monitor). lampLit m z ≡ false) (stands-is 𝒜 ℋ b s) e)
+
+  pub replay-right : (ks : List Call) (ℋ : History) (b : Monitor) → StandsFor 𝒜 b ℋ → Follows 𝒜 ℋ ks (replay m b ks)
+  unfolding replay
+  replay-right [] ℋ b s = record { history = ℋ; recorded = end; stands = s }
+  replay-right (k ∷ ks) ℋ b s =
+      let r = answer-right ℋ b s k in
+      let z = replay-right ks (r .history) (answer m b k .monitor) (r .stands) in
+      record { history = z .history; recorded = call (r .answers) (z .recorded); stands = z .stands }

@@ -1,0 +1,10 @@
+pub mod Limits
+pub mod Automaton
+pub mod TimedWord
+pub mod Reason
+pub mod Loading
+pub mod History
+pub mod Constraints
+pub mod Model
+pub mod Monitor
+pub mod Demands
