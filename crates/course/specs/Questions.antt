@@ -1,7 +1,6 @@
 -- Questions P1 to P10 of document 01 with their keys, as one table.
 use mathlib.Core.Path.{_≡_}
 use mathlib.Core.List.{List, [], _∷_, _++_}
-use Prim.Native.Nat.{ℕ}
 use lib.ListN.{replicate}
 use Rattle.enforcement.specs.Automaton.{Bytes, automaton}
 use Rattle.enforcement.specs.TimedWord.{Event, stamp}

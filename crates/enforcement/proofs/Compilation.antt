@@ -14,7 +14,8 @@ use Rattle.enforcement.specs.Loading.{AllFit, Bounded}
 use Rattle.enforcement.specs.Model.{Compiled, compile, reaches, explore, steps, advance, top, area, saturated, oneClock}
 use Rattle.enforcement.proofs.Saturation.{Steps, saturated-x, saturated-y, step-saturated}
 use Rattle.enforcement.proofs.Memo.{tabled-is, steps-is}
-use Rattle.enforcement.proofs.Liveness.{Live, here, tick, act, AcceptedRun, run-live, live-run, T-true, true-T}
+use Rattle.enforcement.proofs.Liveness.{Live, here, tick, act, AcceptedRun, run-live, live-run}
+use Rattle.enforcement.proofs.Tests.{T-true, true-T}
 use Rattle.enforcement.proofs.Search.{InRange, StepsIn, explore-live, live-explore}
 
 -- A run of actions of the automaton from q at d that ends in an accepting location.
@@ -106,8 +107,8 @@ module _ (𝒜 : Automaton) (bounded : Bounded (𝒜 .bytes)) where
   pub live-right : (d : ℕ) (q : Configuration) → T (compile 𝒜 .live (saturated one q)) ↔ Acceptable 𝒜 d q
   live-right d q =
       let both = live-search (saturated one q) (saturated-x one q) (saturated-y one q) in (
-        λ t. live-run (step 𝒜) acc known one (step-saturated 𝒜 bounded) (saturated one q) (both .0 (T-true (compile 𝒜 .live (saturated one q)) t)) d q refl,
-        λ r. true-T (compile 𝒜 .live (saturated one q)) (both .1 (run-live (step 𝒜) acc known one (step-saturated 𝒜 bounded) (r .word) d q (r .known) (r .run))),
+        λ t. live-run (step 𝒜) acc known one (step-saturated 𝒜 bounded) (saturated one q) (both .0 (T-true t)) d q refl,
+        λ r. true-T (both .1 (run-live (step 𝒜) acc known one (step-saturated 𝒜 bounded) (r .word) d q (r .known) (r .run))),
       )
 
   pub compiled : CompiledFrom 𝒜 (compile 𝒜)

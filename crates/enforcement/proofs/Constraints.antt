@@ -1,17 +1,19 @@
 -- The constraints on an enforcement mechanism hold of every history; what is played are the first events scheduled, in order, and dates never fall.
 use mathlib.Core.Path.{_≡_, refl, ap, sym, _∙_, subst⁻¹, subst₂}
 use mathlib.Core.List.{List, [], _∷_, _++_, append-assoc, append-nil, nil≢cons, head-eq-of-cons-eq}
-use mathlib.Core.Option.{Option, none, some}
 use mathlib.Core.Logic.{_⊎_, inl, inr}
-use Prim.Native.Nat.{ℕ, zero, suc, _-_, _≤_, _<_}
+use Prim.Native.Nat.{ℕ, zero, suc, _≤_}
 use native.Mathlib.Omega.{arith}
 use native.Mathlib.Nat.{le-refl}
+use lib.Seq.{take-append-le}
 use lib.ListN.{length, length-append, length-map, take, drop}
 use Rattle.enforcement.specs.Automaton.{Automaton}
-use Rattle.enforcement.specs.TimedWord.{Configuration, Event, elapse, Found, Run, step, origin, Accepting, Accepts, Monotone, datesOf, stamp}
+use Rattle.enforcement.specs.TimedWord.{Event, Accepts, Monotone, datesOf, stamp}
 use Rattle.enforcement.specs.History.{History, Slot, actionsOf, eventOf, wordOf, place, fresh, schedule, Call, offer, collect, lamp, Outcome, scheduled, held, dropped, played, nothing, lit, dark, refused, joined, Corrects, afterSchedule, afterHold, afterDate, afterPlay, Answers, unknown, late, past, too-late, no-place, full, late-collect, past-collect, too-early, empty, is-dark, is-lit, HistoryOf, call}
 use Rattle.enforcement.specs.Constraints.{Delayed, inputOf, playedOf, Enforcement}
-use Rattle.enforcement.proofs.Slots.{actions-append, word-append, word-place}
+use Rattle.enforcement.proofs.Runs.{monotone-from}
+use Rattle.enforcement.proofs.Progress.{monotone-after}
+use Rattle.enforcement.proofs.Slots.{drop-next, actions-append, word-append, word-place}
 
 -- A list of one.
 abbrev one : {A : Type 0} → A → List A
@@ -142,11 +144,6 @@ covers-joins t c (Covers.omits e x) = Covers.omits e (covers-joins t c x)
 covers-joins t c (Covers.delays b s d h x) = Covers.delays b s d h (covers-joins t c x)
 covers-joins t c (Covers.waits b s h x) = Covers.waits b s h (covers-joins t c x)
 
--- A lower bound of dates may be lowered.
-pub monotone-from : (d e : ℕ) (ds : List ℕ) → d ≤ e → Monotone e ds → Monotone d ds
-monotone-from d e [] l h = tt
-monotone-from d e (f ∷ ds) l h = (omega arith, h .1)
-
 -- The waiting actions get dates.
 covers-dates : {v : List Event} {cs : List ℕ} {w : List Event} (t : ℕ) (ds : List ℕ) → length ds ≡ length cs → Monotone t ds → Covers t v cs w → Covers t (v ++ stamp cs ds) [] w
 unfolding stamp
@@ -184,24 +181,12 @@ stays-covered a h h′ w v i p (Effect.schedules c t ds l k) x =
 pub transparent : (a : Automaton) (h : History) (ks : List Call) (os : List Outcome) → HistoryOf a (fresh a) ks os h → Delayed (wordOf (h .scheduled)) (inputOf ks os)
 transparent a h ks os r = covers-delayed (h .date) (kept a (λ (g : History) (w v : List Event). Covered g w) (stays-covered a) (fresh a) h ks os [] [] r Covers.end)
 
--- The first n of a list that has n.
-take-append : {A : Type 0} (n : ℕ) (u v : List A) → n ≤ length u → take n (u ++ v) ≡ take n u
-take-append zero u v l = refl
-take-append (suc n) [] v l = absurd (omega arith)
-take-append (suc n) (x ∷ u) v l = ap (λ z. x ∷ z) (take-append n u v (omega arith))
-
 -- Where something is left after the first n, it comes next.
 take-next : (n : ℕ) (u : List Slot) (e : Slot) (rest : List Slot) → drop n u ≡ e ∷ rest → take (suc n) (wordOf u) ≡ take n (wordOf u) ++ one (eventOf e)
 take-next zero [] e rest q = absurd (nil≢cons q)
 take-next zero (f ∷ u) e rest q = ap (λ (z : Slot). one (eventOf z)) (head-eq-of-cons-eq q)
 take-next (suc n) [] e rest q = absurd (nil≢cons q)
 take-next (suc n) (f ∷ u) e rest q = ap (λ (z : List Event). eventOf f ∷ z) (take-next n u e rest q)
-
-drop-next : (n : ℕ) (u : List Slot) (e : Slot) (rest : List Slot) → drop n u ≡ e ∷ rest → n < length u
-drop-next zero [] e rest q = absurd (nil≢cons q)
-drop-next zero (f ∷ u) e rest q = omega arith
-drop-next (suc n) [] e rest q = absurd (nil≢cons q)
-drop-next (suc n) (f ∷ u) e rest q = omega (arith, drop-next n u e rest q)
 
 -- The events played are the first ever scheduled, in order.
 abbrev InOrder : History → List Event → Type 0
@@ -212,32 +197,24 @@ stays-in-order a h h′ w v i p Effect.rests x = (append-nil v ∙ x .0, x .1)
 stays-in-order a h h′ w v i p (Effect.passes t l) x = (append-nil v ∙ x .0, x .1)
 stays-in-order a h h′ w v i p (Effect.plays t e rest l q) x = (
   ap (λ (z : List Event). z ++ one (eventOf e)) (x .0) ∙ sym (take-next (h .played) (h .scheduled) e rest q),
-  drop-next (h .played) (h .scheduled) e rest q,
+  drop-next (h .played) (h .scheduled) e rest q .1,
 )
 stays-in-order a h h′ w v i p (Effect.drops c t l) x = (append-nil v ∙ x .0, x .1)
 stays-in-order a h h′ w v i p (Effect.holds c t l) x = (append-nil v ∙ x .0, x .1)
 stays-in-order a h h′ w v i p (Effect.schedules c t ds l k) x =
     let s : List Slot = place (joined h c) ds in
     let n : h .played ≤ length (wordOf (h .scheduled)) = omega (arith, x .1, length-map (h .scheduled) eventOf) in (
-      append-nil v ∙ x .0 ∙ sym (take-append (h .played) (wordOf (h .scheduled)) (wordOf s) n) ∙ ap (take (h .played)) (sym (word-append (h .scheduled) s)),
+      append-nil v ∙ x .0 ∙ sym (take-append-le (h .played) (wordOf (h .scheduled)) (wordOf s) n) ∙ ap (take (h .played)) (sym (word-append (h .scheduled) s)),
       omega (arith, x .1, length-append (h .scheduled) s),
     )
 
 pub played-in-order : (a : Automaton) (h : History) (ks : List Call) (os : List Outcome) → HistoryOf a (fresh a) ks os h → (playedOf os ≡ take (h .played) (wordOf (h .scheduled))) × (h .played ≤ length (h .scheduled))
 played-in-order a h ks os r = kept a (λ (g : History) (w v : List Event). InOrder g v) (stays-in-order a) (fresh a) h ks os [] [] r (refl, le-refl 0)
 
--- The dates of a run never fall.
-found-show : {Q : Configuration → Type 0} {R : Type 0} (o : Option Configuration) → Found o Q → ((q : Configuration) → Q q → R) → R
-found-show none k g = absurd k
-found-show (some q) k g = g q k
-
-pub run-rises : (st : ℕ → Configuration → Option Configuration) (P : ℕ → Configuration → Type 0) (w : List Event) (d : ℕ) (p : Configuration) → Run st P d p w → Monotone d (datesOf w)
-run-rises st P [] d p h = tt
-run-rises st P (e ∷ w) d p h = (h .0, found-show (st (e .action) (elapse (e .date - d) p)) (h .1) (λ q k. run-rises st P w (e .date) q k))
-
+-- The dates of an accepted word never fall.
 pub accepts-rises : (a : Automaton) (w : List Event) → Accepts a w → Monotone (a .loaded) (datesOf w)
 unfolding Accepts
-accepts-rises a w x = run-rises (step a) (Accepting a) w (a .loaded) (origin a) x
+accepts-rises a w x = monotone-after a [] w x
 
 pub dates-rise : (a : Automaton) (h : History) (ks : List Call) (os : List Outcome) → HistoryOf a (fresh a) ks os h → Monotone (a .loaded) (datesOf (wordOf (h .scheduled)))
 dates-rise a h ks os r = elim (sound a h ks os r) [

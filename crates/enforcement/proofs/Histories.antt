@@ -1,12 +1,12 @@
 -- Histories of lists of calls put together, and histories in which nothing was played.
-use mathlib.Core.Path.{_≡_, refl, ap, sym, _∙_, subst⁻¹}
+use mathlib.Core.Path.{_≡_, refl, ap, sym, _∙_}
 use mathlib.Core.List.{List, [], _∷_, _++_}
 use Prim.Native.Nat.{ℕ, zero, suc, _≤_}
 use native.Mathlib.Omega.{arith}
 use lib.ListN.{length, take, drop, length-map}
 use Rattle.enforcement.specs.Automaton.{Automaton}
 use Rattle.enforcement.specs.TimedWord.{Event}
-use Rattle.enforcement.specs.History.{History, Slot, eventOf, wordOf, fresh, schedule, Call, Outcome, HistoryOf, end, call}
+use Rattle.enforcement.specs.History.{History, eventOf, wordOf, fresh, schedule, Call, Outcome, HistoryOf, end, call}
 use Rattle.enforcement.specs.Constraints.{playedOf}
 use Rattle.enforcement.proofs.Constraints.{played-in-order}
 

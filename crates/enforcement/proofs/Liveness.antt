@@ -1,6 +1,6 @@
 -- Liveness: from where an accepting location can be reached, over saturated readings and over exact ones.
 use mathlib.Core.Path.{_≡_, refl, ap, sym, _∙_, subst, subst⁻¹}
-use mathlib.Core.Bool.{Bool, true, false}
+use mathlib.Core.Bool.{Bool, true}
 use mathlib.Core.List.{List, [], _∷_}
 use mathlib.Core.Option.{Option, none, some}
 use Prim.Native.Nat.{ℕ, zero, suc, _-_, _<_}
@@ -9,14 +9,8 @@ use native.Mathlib.Nat.{le-refl}
 use lib.Dec.{T}
 use Rattle.enforcement.specs.TimedWord.{Configuration, Event, elapse, Found, Run, Below}
 use Rattle.enforcement.specs.Model.{advance, saturated}
+use Rattle.enforcement.proofs.Tests.{T-true, true-T}
 use Rattle.enforcement.proofs.Saturation.{Steps, saturatedOption, Saturates, configuration-path, elapse-none, elapse-more, advance-saturated}
-
-pub T-true : (b : Bool) → T b → b ≡ true
-T-true true h = refl
-T-true false h = absurd h
-
-pub true-T : (b : Bool) → b ≡ true → T b
-true-T b e = rw e tt
 
 elapse-zero : (q : Configuration) → elapse 0 q ≡ q
 elapse-zero q = configuration-path (omega arith) (omega arith)
@@ -69,7 +63,7 @@ module _ (st : Steps) (acc : ℕ → Bool) (n : ℕ) where
 
     -- What has a run is live.
     pub run-live : (v : List Event) (d : ℕ) (q : Configuration) → Below n v → Run st (λ _ z. T (acc (z .location))) d q v → Live (saturated one q)
-    run-live [] d q b h = here (T-true (acc (q .location)) h)
+    run-live [] d q b h = here (T-true h)
     run-live (e ∷ v) d q b h = before (e .date - d) q (go (st (e .action) (elapse (e .date - d) q)) refl (h .1) (λ r k. run-live v (e .date) r (b .1) k))
       where
         go : (o : Option Configuration) → st (e .action) (elapse (e .date - d) q) ≡ o → Found o (λ (r : Configuration). Run st (λ _ z. T (acc (z .location))) (e .date) r v)
@@ -79,7 +73,7 @@ module _ (st : Steps) (acc : ℕ → Bool) (n : ℕ) where
 
     -- What is live has a run, at any date.
     pub live-run : (p : Configuration) → Live p → (d : ℕ) (q : Configuration) → p ≡ saturated one q → AcceptedRun d q
-    live-run p (here {p = z} e) d q x = record { word = []; known = tt; run = true-T (acc (q .location)) (ap (λ (y : Configuration). acc (y .location)) (sym x) ∙ e) }
+    live-run p (here {p = z} e) d q x = record { word = []; known = tt; run = true-T (ap (λ (y : Configuration). acc (y .location)) (sym x) ∙ e) }
     live-run p (tick {p = z} g) d q x = later-run d q (live-run (advance 1 z) g (suc d) (elapse 1 q) (ap (advance 1) x ∙ advance-saturated one q))
     live-run p (act {p = z} {q = r} c b e g) d q x = go (st c q) refl (sym (sat c q) ∙ ap (st c) (sym x) ∙ e) (λ y k. live-run r g d y k)
       where

@@ -24,7 +24,7 @@ run-after-monotone st P [] [] d p h = tt
 run-after-monotone st P [] (e ∷ v) d p h = (h .0, Runs.found-show (st (e .action) (elapse (e .date - d) p)) (h .1) (λ q k. run-after-monotone st P [] v (e .date) q k))
 run-after-monotone st P (e ∷ w) v d p h = Runs.found-show (st (e .action) (elapse (e .date - d) p)) (h .1) (λ q k. run-after-monotone st P w v (e .date) q k)
 
-monotone-after : (𝒜 : Automaton) (w v : List Event) → Accepts 𝒜 (w ++ v) → Monotone (lastDate 𝒜 w) (datesOf v)
+pub monotone-after : (𝒜 : Automaton) (w v : List Event) → Accepts 𝒜 (w ++ v) → Monotone (lastDate 𝒜 w) (datesOf v)
 unfolding Accepts
 monotone-after 𝒜 w v h = run-after-monotone (step 𝒜) (Accepting 𝒜) w v (𝒜 .loaded) (origin 𝒜) h
 

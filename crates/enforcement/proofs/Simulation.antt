@@ -2,10 +2,10 @@
 use mathlib.Core.Path.{_≡_, refl, ap, sym, _∙_, subst, subst⁻¹}
 use mathlib.Core.Bool.{Bool, true, false, cond}
 use mathlib.Core.List.{List, [], _∷_, _++_}
-use Prim.Native.Nat.{ℕ, zero, suc, _+_, _≤_, max}
+use Prim.Native.Nat.{ℕ, _+_, _≤_, max}
 use native.Mathlib.Omega.{arith}
 use lib.Dec.{leb, ltb}
-use lib.ListN.{length, drop, length-append}
+use lib.ListN.{length, length-append}
 use lib.Seq.{drop-append-le}
 use borrow.Author.Tests.{leb-true, leb-false, ltb-true, ltb-false}
 use Rattle.enforcement.specs.Limits.{maxCount, maxDate}
@@ -17,7 +17,7 @@ use Rattle.enforcement.specs.History.{Request, Slot, actionsOf, wordOf, 
 use Rattle.enforcement.specs.Model.{Prospect, ticks, extensible, dead, Compiled, prospect, dates, saturated, oneClock}
 use Rattle.enforcement.specs.Monitor.{Monitor, placed, kept, decided, checked, offered, taken, oldest, picked, collected, lampLit, answer, Replayed, replay}
 use Rattle.enforcement.specs.Demands.{Reaches, StandsFor, Demand2}
-use Rattle.enforcement.proofs.Slots.{actions-length, word-append, word-place}
+use Rattle.enforcement.proofs.Slots.{drop-next, actions-length, word-append, word-place}
 use Rattle.enforcement.proofs.Runs.{NonEmpty}
 use Rattle.enforcement.proofs.Corrections.{best-least}
 use Rattle.enforcement.proofs.Compilation.{CompiledFrom}
@@ -32,12 +32,6 @@ monitorOf 𝒜 ℋ last q = record { date = ℋ .date; pending = ℋ .pending; s
 pub joined-nonEmpty : (rs : List Request) (c : ℕ) → NonEmpty (actionsOf (rs ++ (record { action = c } ∷ [])))
 joined-nonEmpty [] c = tt
 joined-nonEmpty (r ∷ rs) c = tt
-
-drop-next : (n : ℕ) (w : List Slot) (e : Slot) (rest : List Slot) → drop n w ≡ e ∷ rest → (drop (suc n) w ≡ rest) × (suc n ≤ length w)
-drop-next zero [] e rest h = absurd (let x : _≡_ {A = ℕ} 0 1 = cc in omega arith)
-drop-next zero (f ∷ w) e rest h = (cc, omega arith)
-drop-next (suc n) [] e rest h = absurd (let x : _≡_ {A = ℕ} 0 1 = cc in omega arith)
-drop-next (suc n) (f ∷ w) e rest h = (drop-next n w e rest h .0, omega (arith, drop-next n w e rest h .1))
 
 module _ (𝒜 : Automaton) (bounded : Bounded (𝒜 .bytes)) (m : Compiled) (mine : CompiledFrom 𝒜 m) (ℋ : History) (played-fits : ℋ .played ≤ length (ℋ .scheduled)) (last : ℕ) (q : Configuration) (reaches : Reaches 𝒜 (wordOf (ℋ .scheduled)) last q) where
   abbrev monitor : Monitor

@@ -1,9 +1,9 @@
 -- Laws of slots and requests.
 use mathlib.Core.Path.{_≡_, refl, ap}
 use mathlib.Core.List.{List, [], _∷_, _++_, map-append}
-use Prim.Native.Nat.{ℕ, suc}
+use Prim.Native.Nat.{ℕ, zero, suc, _≤_}
 use native.Mathlib.Omega.{arith}
-use lib.ListN.{length, length-map}
+use lib.ListN.{length, length-map, drop}
 use Rattle.enforcement.specs.TimedWord.{Event, stamp}
 use Rattle.enforcement.specs.History.{Request, Slot, actionsOf, eventOf, wordOf, place}
 
@@ -27,3 +27,10 @@ unfolding place
 place-length [] ds h = refl
 place-length (r ∷ rs) [] h = h
 place-length (r ∷ rs) (d ∷ ds) h = ap suc (place-length rs ds (omega arith))
+
+-- Where something is left after the first n, the first n and it are there.
+pub drop-next : (n : ℕ) (w : List Slot) (e : Slot) (rest : List Slot) → drop n w ≡ e ∷ rest → (drop (suc n) w ≡ rest) × (suc n ≤ length w)
+drop-next zero [] e rest h = absurd (let x : _≡_ {A = ℕ} 0 1 = cc in omega arith)
+drop-next zero (f ∷ w) e rest h = (cc, omega arith)
+drop-next (suc n) [] e rest h = absurd (let x : _≡_ {A = ℕ} 0 1 = cc in omega arith)
+drop-next (suc n) (f ∷ w) e rest h = (drop-next n w e rest h .0, omega (arith, drop-next n w e rest h .1))

@@ -1,0 +1,47 @@
+// The box's struct with its limits, and the numbers that follow from them.
+
+// A scheduled action with its date.
+pub struct Slot {
+    pub action: u8,
+    pub date: u32,
+}
+
+// An enforcement monitor (the box): its automaton's bytes, the table of live configurations, its date, the pending actions, the schedule, and
+// the location, readings and date reached by the last event ever scheduled.
+pub struct Monitor {
+    pub bytes: [u8; Monitor::SIZE],
+    pub size: usize,
+    pub live: [u16; Monitor::VALUATIONS],
+    pub date: u32,
+    pub pending: [u8; Monitor::COUNT],
+    pub held: usize,
+    pub schedule: [Slot; Monitor::SCHEDULED],
+    pub planned: usize,
+    pub location: u8,
+    pub readings: [u8; 2],
+    pub last: u32,
+}
+
+impl Monitor {
+    // The most locations, actions and pending actions.
+    pub const COUNT: usize = 16;
+    // The largest bound of a guard.
+    pub const BOUND: u8 = 30;
+    // The most scheduled events that have not been played.
+    pub const SCHEDULED: usize = 32;
+    // The most transitions.
+    pub const TRANSITIONS: usize = 64;
+    // The last date.
+    pub const LATEST: u32 = 1_000_000_000;
+
+    // The bytes of the largest automaton.
+    pub const SIZE: usize = 6 + 4 * Monitor::COUNT + 7 * Monitor::TRANSITIONS;
+    // Readings from here on act alike.
+    pub const TOP: u8 = Monitor::BOUND + 1;
+    // How many readings and valuations there are.
+    pub const WIDTH: usize = Monitor::BOUND as usize + 2;
+
+    pub const VALUATIONS: usize = Monitor::WIDTH * Monitor::WIDTH;
+    // The most actions of a correction: what is pending and one more.
+    pub const BATCH: usize = Monitor::COUNT + 1;
+}
