@@ -1,2 +1,3 @@
 pub mod Valuations
 pub mod Transitions
+pub mod SheetLaws

@@ -1,2 +1,4 @@
 pub mod Readings
 pub mod Steps
+pub mod Reasons
+pub mod Checked

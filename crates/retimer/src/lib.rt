@@ -1,5 +1,19 @@
 // The command retimer: the layers of code, each using only those before it.
-pub mod bytes;
-pub mod clocks;
+
+// The box's struct and its limits.
 pub mod limits;
+
+// Why a load or a call refuses.
+pub mod reason;
+
+// Numbers read from bytes.
+pub mod bytes;
+
+// Readings of the clocks.
+pub mod clocks;
+
+// The check of a sheet at loading.
+pub mod sheet;
+
+// The transition that an action takes.
 pub mod lookup;
