@@ -2,7 +2,7 @@
 use crate::limits::Monitor;
 ghost use mathlib.Core.Path.{_≡_};
 ghost use mathlib.Core.Bool.{cond};
-ghost use Prim.Native.Nat.{ℕ, _+_, _≤_, min};
+ghost use Prim.Native.Nat.{_+_, _≤_, min};
 ghost use lib.Dec.{eqb};
 ghost use Rattle.enforcement.specs.Automaton.{within};
 ghost use Rattle.enforcement.specs.Model.{top};

@@ -2,7 +2,7 @@
 use crate::bytes;
 use crate::clocks;
 ghost use mathlib.Core.Path.{_≡_};
-ghost use Prim.Native.Nat.{ℕ, _+_, _≤_};
+ghost use Prim.Native.Nat.{_+_, _≤_};
 ghost use lib.ListN.{length};
 ghost use Rattle.enforcement.specs.Loading.{Loads};
 ghost use Rattle.retimer.specs.Readings.{Standing};

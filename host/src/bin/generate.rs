@@ -1,0 +1,50 @@
+//! Writes one random desk input to standard output.
+
+use host::generate::{kind_named, KINDS};
+use std::io::{self, Write};
+use std::process::ExitCode;
+
+const USAGE: &str = "usage: generate KIND SEED\n       generate --list";
+
+fn main() -> ExitCode {
+    let arguments: Vec<String> = std::env::args_os()
+        .skip(1)
+        .map(|argument| argument.to_string_lossy().into_owned())
+        .collect();
+    let bytes = match arguments.as_slice() {
+        [list] if list == "--list" => Ok(list_of_kinds()),
+        [kind, seed] => input(kind, seed),
+        _ => Err(USAGE.into()),
+    };
+    match bytes {
+        Ok(bytes) => write(&bytes),
+        Err(message) => {
+            eprintln!("{message}");
+            ExitCode::from(2)
+        }
+    }
+}
+
+fn list_of_kinds() -> Vec<u8> {
+    let names = KINDS.iter().map(|kind| format!("{}\n", kind.name));
+    names.collect::<String>().into_bytes()
+}
+
+fn input(kind: &str, seed: &str) -> Result<Vec<u8>, String> {
+    let kind = kind_named(kind).ok_or_else(|| format!("generate: no kind {kind:?}\n{USAGE}"))?;
+    let seed = seed
+        .parse()
+        .map_err(|_| format!("generate: {seed:?} is no seed\n{USAGE}"))?;
+    Ok(kind.input(seed))
+}
+
+fn write(bytes: &[u8]) -> ExitCode {
+    let mut out = io::stdout().lock();
+    match out.write_all(bytes).and_then(|()| out.flush()) {
+        Ok(()) => ExitCode::SUCCESS,
+        Err(error) => {
+            eprintln!("generate: {error}");
+            ExitCode::FAILURE
+        }
+    }
+}

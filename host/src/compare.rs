@@ -1,0 +1,153 @@
+//! Compares a desk program with this library over random inputs.
+
+use crate::desk;
+use crate::generate::{Kind, KINDS};
+use crate::tally::Tally;
+use std::io::{self, Write};
+use std::path::{Path, PathBuf};
+use std::process::{Command, Output, Stdio};
+use std::{env, fmt, fs, process, thread};
+
+/// What was compared without a difference.
+#[derive(Debug, Default)]
+pub struct Summary {
+    pub inputs: u64,
+    pub tally: Tally,
+    /// How many runs ended with an exit status other than 0.
+    pub unsuccessful: u64,
+}
+
+/// Why a comparison stopped.
+#[derive(Debug)]
+pub enum Stop {
+    /// The program could not be run.
+    NotRun(io::Error),
+    /// The outputs differ.
+    Difference(Box<Difference>),
+}
+
+/// The first difference.
+#[derive(Debug)]
+pub struct Difference {
+    pub kind: &'static str,
+    pub seed: u64,
+    /// Number of the first line that differs, from 1.
+    pub line: usize,
+    pub expected: String,
+    pub found: String,
+    /// How the program ended.
+    pub status: String,
+    /// Where the input was written, if it could be.
+    pub input: Option<PathBuf>,
+}
+
+/// Runs every kind for each seed through the program and the library.
+pub fn compare(program: &Path, first_seed: u64, seeds: u64) -> Result<Summary, Stop> {
+    let mut summary = Summary::default();
+    for kind in KINDS {
+        for seed in (0..seeds).map(|step| first_seed.wrapping_add(step)) {
+            compare_one(program, kind, seed, &mut summary)?;
+        }
+    }
+    Ok(summary)
+}
+
+fn compare_one(program: &Path, kind: &Kind, seed: u64, summary: &mut Summary) -> Result<(), Stop> {
+    let input = kind.input(seed);
+    let expected = desk::run(&input);
+    let found = run(program, &input).map_err(Stop::NotRun)?;
+    // No exit status means that the program was broken off.
+    if found.stdout != expected.as_bytes() || found.status.code().is_none() {
+        let difference = difference(kind, seed, &input, &expected, &found);
+        return Err(Stop::Difference(Box::new(difference)));
+    }
+    summary.inputs += 1;
+    summary.tally.add(&expected);
+    summary.unsuccessful += u64::from(!found.status.success());
+    Ok(())
+}
+
+/// Runs a program on an input and gives what it prints.
+pub fn run(program: &Path, input: &[u8]) -> io::Result<Output> {
+    let mut child = Command::new(program)
+        .stdin(Stdio::piped())
+        .stdout(Stdio::piped())
+        .spawn()?;
+    let stdin = child.stdin.take();
+    thread::scope(|scope| {
+        scope.spawn(move || {
+            // A program may stop reading early; its output tells.
+            if let Some(mut stdin) = stdin {
+                let _ = stdin.write_all(input);
+            }
+        });
+        child.wait_with_output()
+    })
+}
+
+fn difference(kind: &Kind, seed: u64, input: &[u8], expected: &str, found: &Output) -> Difference {
+    let text = String::from_utf8_lossy(&found.stdout);
+    let (line, expected, found_line) = first_difference(expected, &text);
+    let name = format!("desk-input-{}-{seed}-{}.bin", kind.name, process::id());
+    let path = env::temp_dir().join(name);
+    Difference {
+        kind: kind.name,
+        seed,
+        line,
+        expected,
+        found: found_line,
+        status: found.status.to_string(),
+        input: fs::write(&path, input).is_ok().then_some(path),
+    }
+}
+
+/// The number of the first line that differs, and that line of both outputs.
+fn first_difference(expected: &str, found: &str) -> (usize, String, String) {
+    let mut ours = expected.split_inclusive('\n');
+    let mut theirs = found.split_inclusive('\n');
+    let mut number = 1;
+    loop {
+        let pair = (ours.next(), theirs.next());
+        if pair.0 != pair.1 || pair.0.is_none() {
+            return (number, show(pair.0), show(pair.1));
+        }
+        number += 1;
+    }
+}
+
+/// A line as it stands, its line end made visible, or that there is none.
+fn show(line: Option<&str>) -> String {
+    line.map_or("(no line)".into(), |line| format!("{line:?}"))
+}
+
+impl fmt::Display for Difference {
+    fn fmt(&self, out: &mut fmt::Formatter<'_>) -> fmt::Result {
+        writeln!(out, "difference: kind {}, seed {}", self.kind, self.seed)?;
+        writeln!(out, "first line that differs: {}", self.line)?;
+        writeln!(out, "  expected: {}", self.expected)?;
+        writeln!(out, "  found:    {}", self.found)?;
+        writeln!(out, "the program ended with {}", self.status)?;
+        match &self.input {
+            Some(path) => write!(out, "input: {}", path.display()),
+            None => write!(out, "the input could not be written"),
+        }
+    }
+}
+
+impl fmt::Display for Summary {
+    fn fmt(&self, out: &mut fmt::Formatter<'_>) -> fmt::Result {
+        let lines = self.tally.lines();
+        writeln!(out, "no difference: {} inputs, {lines} lines", self.inputs)?;
+        for (name, count) in self.tally.all() {
+            writeln!(out, "{count:>10}  {name}")?;
+        }
+        if self.unsuccessful > 0 {
+            writeln!(
+                out,
+                "{:>10}  runs with another exit status than 0",
+                self.unsuccessful
+            )?;
+        }
+        Ok(())
+    }
+}

@@ -1,0 +1,398 @@
+//! The named kinds of desk inputs.
+
+use super::calls::{push_call, push_random_calls, Pace, Plan, Script};
+use super::damage::{at_an_edge, damaged};
+use super::draft::{draw, Bounds, Draft, Goal, Profile};
+use super::with_length;
+use crate::course::{A, B, C, D, E};
+use crate::limits::{LAST_DATE, MAX_PENDING};
+use crate::monitor::Answer;
+use crate::random::Random;
+use crate::refusal::Refusal;
+use crate::sheet::UNBOUNDED;
+
+/// A kind of desk inputs.
+pub struct Kind {
+    pub name: &'static str,
+    pub(super) make: fn(&mut Random) -> Vec<u8>,
+}
+
+/// All kinds.
+pub const KINDS: &[Kind] = &[
+    kind("one_clock", one_clock),
+    kind("two_clocks", two_clocks),
+    kind("deadlines", deadlines),
+    kind("long_pending", long_pending),
+    kind("full_schedule", full_schedule),
+    kind("full_sheet", full_sheet),
+    kind("late", late),
+    kind("course", course),
+    kind("bad_sheet", bad_sheet),
+    kind("edge_sheet", edge_sheet),
+    kind("bad_calls", bad_calls),
+    kind("tails", tails),
+    kind("truncated", truncated),
+    kind("any_bytes", any_bytes),
+];
+
+const fn kind(name: &'static str, make: fn(&mut Random) -> Vec<u8>) -> Kind {
+    Kind { name, make }
+}
+
+/// The kind of a name.
+pub fn kind_named(name: &str) -> Option<&'static Kind> {
+    KINDS.iter().find(|kind| kind.name == name)
+}
+
+const SMALL: Bounds = Bounds { low: 1, high: 5 };
+const MIDDLE: Bounds = Bounds { low: 1, high: 14 };
+const LARGE: Bounds = Bounds { low: 25, high: 30 };
+const ALL: Bounds = Bounds { low: 0, high: 30 };
+
+const SLOW: Pace = Pace {
+    still: 60,
+    jumps: 5,
+    step: 2,
+    jump: 35,
+};
+const STEADY: Pace = Pace {
+    still: 35,
+    jumps: 15,
+    step: 5,
+    jump: 40,
+};
+
+fn not_dropped(answer: &Answer) -> bool {
+    *answer != Answer::Dropped
+}
+
+fn lengthens(answer: &Answer) -> bool {
+    matches!(answer, Answer::Held(_) | Answer::Refused(Refusal::S4))
+}
+
+fn schedules(answer: &Answer) -> bool {
+    matches!(
+        answer,
+        Answer::Scheduled { .. } | Answer::Refused(Refusal::S2 | Refusal::S3)
+    )
+}
+
+/// A profile of a middling automaton.
+fn profile(random: &mut Random, clocks: u8) -> Profile {
+    let goals = [
+        Goal::Last,
+        Goal::Last,
+        Goal::Percent(0),
+        Goal::Percent(20),
+        Goal::Percent(50),
+    ];
+    let goal = if random.chance(3) {
+        Goal::Nowhere
+    } else {
+        random.pick(&goals)
+    };
+    Profile {
+        locations: (1, random.pick(&[2, 4, 8, 16])),
+        clocks,
+        actions: (1, random.pick(&[2, 3, 6, 16])),
+        bounds: random.pick(&[SMALL, SMALL, MIDDLE, LARGE, ALL]),
+        splits: random.between(0, 3),
+        density: random.between(20, 90),
+        forward: random.between(30, 90),
+        resets: random.between(5, 60),
+        gaps: random.between(10, 60),
+        goal,
+    }
+}
+
+/// A plan of middling calls.
+fn plan(random: &mut Random) -> Plan {
+    Plan {
+        calls: random.between(5, 40),
+        collections: random.between(10, 40),
+        stray: 3,
+        steered: random.between(40, 90),
+        wanted: not_dropped,
+        pace: random.pick(&[SLOW, STEADY]),
+    }
+}
+
+/// A script with a draft's sheet and calls by a plan.
+fn scripted(random: &mut Random, draft: &Draft, plan: Plan) -> Vec<u8> {
+    let mut script = Script::new(&draft.bytes());
+    script.follow(random, plan);
+    script.drain(random);
+    script.finish()
+}
+
+fn one_clock(random: &mut Random) -> Vec<u8> {
+    let profile = profile(random, 1);
+    let draft = draw(random, &profile);
+    let plan = plan(random);
+    scripted(random, &draft, plan)
+}
+
+fn two_clocks(random: &mut Random) -> Vec<u8> {
+    let profile = profile(random, 2);
+    let draft = draw(random, &profile);
+    let plan = plan(random);
+    scripted(random, &draft, plan)
+}
+
+/// Chains with upper bounds and few resets, so that pending actions expire.
+fn deadlines(random: &mut Random) -> Vec<u8> {
+    let clocks = random.byte(1, 2);
+    let profile = Profile {
+        locations: (3, 8),
+        actions: (1, 4),
+        bounds: random.pick(&[MIDDLE, LARGE, ALL]),
+        splits: random.between(1, 3),
+        forward: 85,
+        resets: random.between(0, 35),
+        gaps: 70,
+        goal: random.pick(&[Goal::Last, Goal::Last, Goal::Percent(10)]),
+        ..profile(random, clocks)
+    };
+    let draft = draw(random, &profile);
+    let plan = plan(random).collecting(30).pacing(STEADY);
+    scripted(random, &draft, plan.steering(85, not_dropped))
+}
+
+/// An automaton with loops and chains and one late accepting location.
+fn far_goal(random: &mut Random) -> Draft {
+    let clocks = random.byte(1, 2);
+    let profile = Profile {
+        locations: random.pick(&[(2, 3), (2, 6), (8, 16)]),
+        actions: (2, random.pick(&[3, 4, 8])),
+        density: random.between(40, 100),
+        splits: random.between(1, 3),
+        forward: random.between(10, 60),
+        resets: random.between(20, 70),
+        gaps: random.between(5, 40),
+        goal: Goal::Last,
+        ..profile(random, clocks)
+    };
+    let mut draft = draw(random, &profile);
+    draft.initial = 0;
+    if random.chance(60) {
+        one_exit(random, &mut draft);
+    }
+    draft
+}
+
+/// Lets the last action, and no other, lead to the last location.
+fn one_exit(random: &mut Random, draft: &mut Draft) {
+    let last = draft.locations - 1;
+    for rule in draft.outgoing.iter_mut().flatten() {
+        if rule[0] == draft.actions - 1 {
+            rule[1] = last;
+        } else if rule[1] == last {
+            rule[1] = random.byte(0, last - 1);
+        }
+    }
+}
+
+/// The pending list grows, often until it is full, and then is scheduled.
+fn long_pending(random: &mut Random) -> Vec<u8> {
+    let draft = far_goal(random);
+    let mut script = Script::new(&draft.bytes());
+    let general = plan(random).collecting(5).pacing(SLOW);
+    let grow = general.steering(95, lengthens);
+    for _ in 0..random.between(1, 3) {
+        let full = random.pick(&[3, 8, 12, MAX_PENDING, MAX_PENDING]);
+        for _ in 0..full + 8 {
+            if script.monitor().pending().len() < full {
+                script.follow(random, grow.times(1));
+            }
+        }
+        let more = random.between(0, 3);
+        script.follow(random, grow.times(more));
+        script.follow(random, general.steering(100, schedules).times(2));
+        let rest = random.between(0, 20);
+        script.follow(random, general.collecting(80).times(rest));
+    }
+    script.drain(random);
+    script.finish()
+}
+
+/// Many accepting locations and few collections; the schedule fills.
+fn full_schedule(random: &mut Random) -> Vec<u8> {
+    let clocks = random.byte(1, 2);
+    let profile = Profile {
+        locations: (1, 6),
+        density: random.between(50, 100),
+        gaps: random.between(0, 30),
+        goal: Goal::Percent(random.pick(&[10, 40, 80])),
+        ..profile(random, clocks)
+    };
+    let draft = draw(random, &profile);
+    let mut script = Script::new(&draft.bytes());
+    let fill = plan(random).collecting(4).pacing(SLOW);
+    let fill = fill.steering(95, schedules);
+    let either = fill.steering(95, not_dropped).pacing(STEADY);
+    script.follow(random, fill.times(40));
+    for _ in 0..random.between(1, 3) {
+        script.follow(random, either.collecting(40).times(8));
+        script.follow(random, fill.times(10));
+        script.follow(random, either.collecting(90).times(4));
+    }
+    script.drain(random);
+    script.finish()
+}
+
+/// The largest sheets: 16 locations, 16 actions, 64 transitions, 518 bytes.
+fn full_sheet(random: &mut Random) -> Vec<u8> {
+    let clocks = random.byte(1, 2);
+    let profile = Profile {
+        locations: (16, 16),
+        actions: (16, 16),
+        density: 100,
+        splits: random.between(0, 2),
+        ..profile(random, clocks)
+    };
+    let draft = draw(random, &profile);
+    let plan = plan(random).steering(90, not_dropped);
+    scripted(random, &draft, plan)
+}
+
+/// Dates near the last one.
+fn late(random: &mut Random) -> Vec<u8> {
+    let clocks = random.byte(1, 2);
+    let profile = Profile {
+        locations: (1, 6),
+        resets: random.between(30, 80),
+        goal: random.pick(&[Goal::Last, Goal::Percent(30), Goal::Percent(60)]),
+        ..profile(random, clocks)
+    };
+    let draft = draw(random, &profile);
+    let mut script = Script::new(&draft.bytes());
+    let general = plan(random).steering(90, not_dropped);
+    // At times the schedule is full before the dates are late.
+    let early = random.pick(&[0, 1, 4, 45]);
+    let start = general.collecting(0).pacing(SLOW);
+    script.follow(random, start.steering(90, schedules).times(early));
+    let before = random.pick(&[0, 1, 5, 31, 32, 60, 200]);
+    script.offer(0, LAST_DATE - random.between(0, before));
+    script.follow(random, general);
+    script.follow(random, general.steering(90, schedules).times(10));
+    script.offer(0, LAST_DATE + random.between(0, 1));
+    script.follow(random, general.steering(90, schedules).times(5));
+    script.drain(random);
+    script.finish()
+}
+
+/// The course sheets with random calls.
+fn course(random: &mut Random) -> Vec<u8> {
+    let mut script = Script::new(random.pick(&[A, B, C, D, E]));
+    let steered = random.between(0, 80);
+    let plan = plan(random).steering(steered, not_dropped);
+    script.follow(random, plan);
+    script.drain(random);
+    script.finish()
+}
+
+/// Good sheets with damage.
+fn bad_sheet(random: &mut Random) -> Vec<u8> {
+    let clocks = random.byte(1, 2);
+    let profile = profile(random, clocks);
+    let draft = draw(random, &profile);
+    let mut input = with_length(&damaged(random, draft));
+    let count = random.between(0, 6);
+    push_random_calls(random, &mut input, count);
+    input
+}
+
+/// Good sheets with one field next to an edge of its range.
+fn edge_sheet(random: &mut Random) -> Vec<u8> {
+    let clocks = random.byte(1, 2);
+    let profile = profile(random, clocks);
+    let draft = draw(random, &profile);
+    let mut input = with_length(&at_an_edge(random, draft));
+    let count = random.between(0, 6);
+    push_random_calls(random, &mut input, count);
+    input
+}
+
+/// Calls that are often refused for their action or date.
+fn bad_calls(random: &mut Random) -> Vec<u8> {
+    let clocks = random.byte(1, 2);
+    let profile = profile(random, clocks);
+    let draft = draw(random, &profile);
+    let plan = plan(random).straying(60);
+    scripted(random, &draft, plan)
+}
+
+/// Good inputs with one to four bytes too many.
+fn tails(random: &mut Random) -> Vec<u8> {
+    let mut input = course(random);
+    if random.chance(50) {
+        input = one_clock(random);
+    }
+    for _ in 0..random.between(1, 4) {
+        input.push(random.byte(0, 255));
+    }
+    input
+}
+
+/// Inputs that end somewhere.
+fn truncated(random: &mut Random) -> Vec<u8> {
+    let mut input = if random.chance(50) {
+        course(random)
+    } else {
+        two_clocks(random)
+    };
+    let length = if random.chance(20) {
+        random.below(8)
+    } else {
+        random.below(input.len() + 1)
+    };
+    input.truncate(length);
+    input
+}
+
+/// Random bytes, at times with a length and counts that fit.
+fn any_bytes(random: &mut Random) -> Vec<u8> {
+    let length = random.pick(&[0, 1, 2, 5, 10, 30, 100, 700]);
+    let mut bytes: Vec<u8> = (0..length).map(|_| random.byte(0, 255)).collect();
+    match random.below(4) {
+        0 => bytes,
+        1 => with_length(&bytes),
+        2 => small_bytes(random, &bytes),
+        _ => {
+            bytes.splice(0..0, with_length(&tiny_sheet(random)));
+            push_call(&mut bytes, 0, random.between(0, 9));
+            bytes
+        }
+    }
+}
+
+/// Bytes made small, a counted part of them as the sheet, often with counts
+/// and an initial location that fit.
+fn small_bytes(random: &mut Random, bytes: &[u8]) -> Vec<u8> {
+    let mut sheet: Vec<u8> = bytes.iter().map(|byte| byte % 4).collect();
+    let calls = sheet.split_off(random.below(sheet.len() + 1));
+    let fitting = [random.byte(1, 3), random.byte(1, 2), 3, 0, 1, 0];
+    for (byte, value) in sheet.iter_mut().zip(fitting) {
+        if random.chance(90) {
+            *byte = value;
+        }
+    }
+    let mut input = with_length(&sheet);
+    input.extend(calls);
+    input
+}
+
+/// One location with one transition whose fields are drawn alone.
+fn tiny_sheet(random: &mut Random) -> Vec<u8> {
+    let clocks = random.byte(1, 2);
+    let mut sheet = vec![1, clocks, 2, 0, random.byte(0, 1), 0, 10, 0, 7, 0];
+    let highs = [1, 0, 1, 30, UNBOUNDED, 30, UNBOUNDED];
+    sheet.extend(highs.map(|high| random.byte(0, high)));
+    // Mostly no upper bounds, and nothing for clock 2.
+    for (at, value) in [(14, UNBOUNDED), (15, 0), (16, UNBOUNDED)] {
+        if random.chance(75) {
+            sheet[at] = value;
+        }
+    }
+    sheet
+}

@@ -1,0 +1,29 @@
+//! Random desk inputs: named kinds, each deterministic from a seed.
+
+mod calls;
+mod damage;
+mod draft;
+mod kinds;
+
+pub use draft::{draw, Bounds, Draft, Goal, Profile};
+pub use kinds::{kind_named, Kind, KINDS};
+
+use crate::random::Random;
+
+impl Kind {
+    /// The input of this kind for a seed.
+    pub fn input(&self, seed: u64) -> Vec<u8> {
+        // The name takes part, so that kinds do not share their random numbers.
+        let name = self.name.bytes();
+        let salt = name.fold(0u64, |salt, byte| salt.wrapping_mul(257) + u64::from(byte));
+        let mixed = Random::new(salt).bits() ^ seed;
+        (self.make)(&mut Random::new(Random::new(mixed).bits()))
+    }
+}
+
+/// Puts the length before a sheet, as the desk program wants it.
+fn with_length(sheet: &[u8]) -> Vec<u8> {
+    let mut input = (sheet.len() as u16).to_le_bytes().to_vec();
+    input.extend_from_slice(sheet);
+    input
+}

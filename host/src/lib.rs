@@ -1,0 +1,16 @@
+//! The second program of the command retimer: an automaton reader, a monitor
+//! that retimes actions, the desk program's lines, and random desk inputs.
+
+pub mod compare;
+pub mod course;
+pub mod decide;
+pub mod desk;
+pub mod generate;
+pub mod limits;
+pub mod monitor;
+pub mod random;
+pub mod refusal;
+pub mod runs;
+pub mod sets;
+pub mod sheet;
+pub mod tally;

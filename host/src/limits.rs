@@ -1,0 +1,12 @@
+//! The limits of the box, each named once.
+
+/// Most actions that can be pending.
+pub const MAX_PENDING: usize = 16;
+/// Largest finite bound of a guard.
+pub const MAX_BOUND: u8 = 30;
+/// Most actions in the schedule.
+pub const MAX_SCHEDULED: usize = 32;
+/// Most transitions of an automaton.
+pub const MAX_TRANSITIONS: usize = 64;
+/// Last date that a call or a correction may have.
+pub const LAST_DATE: u32 = 1_000_000_000;

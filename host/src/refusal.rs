@@ -1,0 +1,46 @@
+//! The reasons for which a load or a call refuses.
+
+use std::fmt;
+
+/// A reason, named as it is printed: I for the input, S for the state.
+#[derive(Clone, Copy, Debug, PartialEq, Eq)]
+pub enum Refusal {
+    I1,
+    I2,
+    I3,
+    I4,
+    I5,
+    I6,
+    I7,
+    I8,
+    S1,
+    S2,
+    S3,
+    S4,
+}
+
+impl Refusal {
+    /// The reason's name in the desk program's lines.
+    pub fn name(self) -> &'static str {
+        match self {
+            Refusal::I1 => "I-1",
+            Refusal::I2 => "I-2",
+            Refusal::I3 => "I-3",
+            Refusal::I4 => "I-4",
+            Refusal::I5 => "I-5",
+            Refusal::I6 => "I-6",
+            Refusal::I7 => "I-7",
+            Refusal::I8 => "I-8",
+            Refusal::S1 => "S-1",
+            Refusal::S2 => "S-2",
+            Refusal::S3 => "S-3",
+            Refusal::S4 => "S-4",
+        }
+    }
+}
+
+impl fmt::Display for Refusal {
+    fn fmt(&self, out: &mut fmt::Formatter<'_>) -> fmt::Result {
+        out.write_str(self.name())
+    }
+}

@@ -1,0 +1,61 @@
+//! Helpers that several tests share.
+#![allow(dead_code)]
+
+use host::desk;
+use host::monitor::{Answer, Monitor};
+use host::refusal::Refusal;
+use host::sheet;
+
+/// The first byte of a collection.
+pub const COLLECT: u8 = 255;
+
+/// A fresh box.
+pub fn fresh(bytes: &[u8]) -> Monitor {
+    Monitor::new(sheet::read(bytes).expect("the sheet loads"))
+}
+
+/// The answer that schedules so many actions.
+pub fn scheduled(count: usize, last: u32) -> Answer {
+    Answer::Scheduled { count, last }
+}
+
+/// The answer that refuses.
+pub fn refused(refusal: Refusal) -> Answer {
+    Answer::Refused(refusal)
+}
+
+/// The dates of all that was ever scheduled.
+pub fn dates(monitor: &Monitor) -> Vec<u32> {
+    monitor.history().iter().map(|timed| timed.date).collect()
+}
+
+/// A desk input of a sheet and calls.
+pub fn input(bytes: &[u8], calls: &[(u8, u32)]) -> Vec<u8> {
+    let mut input = (bytes.len() as u16).to_le_bytes().to_vec();
+    input.extend_from_slice(bytes);
+    for (first, date) in calls {
+        input.push(*first);
+        input.extend_from_slice(&date.to_le_bytes());
+    }
+    input
+}
+
+/// The lines for a sheet and calls.
+pub fn lines(bytes: &[u8], calls: &[(u8, u32)]) -> Vec<String> {
+    let output = desk::run(&input(bytes, calls));
+    output.lines().map(String::from).collect()
+}
+
+/// A sheet from its counts, its accepting set and the rules of each location.
+pub fn sheet_of(counts: [u8; 4], accepting: u16, rules: &[&[[u8; 7]]]) -> Vec<u8> {
+    let mut bytes = counts.to_vec();
+    bytes.extend_from_slice(&accepting.to_le_bytes());
+    let mut offset = 6 + 4 * rules.len();
+    for table in rules {
+        bytes.extend_from_slice(&(offset as u16).to_le_bytes());
+        bytes.extend_from_slice(&(7 * table.len() as u16).to_le_bytes());
+        offset += 7 * table.len();
+    }
+    bytes.extend(rules.iter().flat_map(|table| table.iter()).flatten());
+    bytes
+}

@@ -1,0 +1,203 @@
+//! Compares the monitor with a book that tries every dating.
+
+mod book;
+
+use book::Book;
+use host::generate::{draw, Bounds, Goal, Profile};
+use host::limits::LAST_DATE;
+use host::monitor::{Answer, Monitor};
+use host::random::Random;
+use host::refusal::Refusal;
+use host::sheet;
+
+/// What a comparison runs over.
+struct Trial {
+    sheets: u64,
+    calls: u32,
+    /// Longest list of commands that the book dates.
+    list: usize,
+    bounds: &'static [Bounds],
+    /// Ticks per command that the book lets a dating wait.
+    wait: u32,
+    /// Largest step of the dates.
+    step: u32,
+    /// Date of a first collection.
+    start: u32,
+}
+
+/// How often answers occurred.
+#[derive(Default, Debug)]
+struct Seen {
+    scheduled: u32,
+    batches: u32,
+    waits: u32,
+    held: u32,
+    dropped: u32,
+    lit: u32,
+    dark: u32,
+    lit_while_held: u32,
+    /// Refusals for the last date; not required everywhere.
+    too_late: u32,
+}
+
+fn profile(random: &mut Random, bounds: Bounds) -> Profile {
+    Profile {
+        locations: (1, 4),
+        clocks: random.byte(1, 2),
+        actions: (1, 3),
+        bounds,
+        splits: random.between(0, 3),
+        density: random.between(30, 80),
+        forward: random.between(20, 90),
+        resets: random.between(10, 60),
+        gaps: random.between(20, 80),
+        goal: random.pick(&[Goal::Last, Goal::Last, Goal::Percent(0), Goal::Percent(30)]),
+    }
+}
+
+fn run(trial: &Trial, salt: u64) -> Seen {
+    let mut seen = Seen::default();
+    for seed in 0..trial.sheets {
+        let random = &mut Random::new(seed.wrapping_mul(1000) + salt);
+        let bounds = random.pick(trial.bounds);
+        let profile = profile(random, bounds);
+        let bytes = draw(random, &profile).bytes();
+        let automaton = sheet::read(&bytes).expect("drawn sheets load");
+        let mut monitor = Monitor::new(automaton);
+        let mut book = Book::new(bytes, trial.wait);
+        assert_eq!(monitor.collect(trial.start), book.collect(trial.start));
+        for _ in 0..trial.calls {
+            if !call(trial, random, &mut monitor, &mut book, &mut seen) {
+                break;
+            }
+        }
+    }
+    seen
+}
+
+/// Makes one call on both; false once the next list would be too long.
+fn call(
+    trial: &Trial,
+    random: &mut Random,
+    monitor: &mut Monitor,
+    book: &mut Book,
+    seen: &mut Seen,
+) -> bool {
+    if monitor.pending().len() == trial.list {
+        return false;
+    }
+    let date = (monitor.date() + random.between(0, trial.step)).min(LAST_DATE);
+    let (answer, expected) = if random.chance(25) {
+        (monitor.collect(date), book.collect(date))
+    } else {
+        let action = random.byte(0, monitor.automaton().actions - 1);
+        (monitor.offer(action, date), book.offer(action, date))
+    };
+    assert_eq!(answer, expected);
+    assert_eq!(monitor.pending(), book.held);
+    let history = monitor.history().iter();
+    let history: Vec<(u8, u32)> = history.map(|timed| (timed.action, timed.date)).collect();
+    assert_eq!(history, book.scheduled);
+    let lit = monitor.lamp();
+    assert_eq!(lit, book.lit());
+    count(seen, answer, lit, !book.held.is_empty(), date);
+    true
+}
+
+fn count(seen: &mut Seen, answer: Answer, lit: bool, held: bool, date: u32) {
+    match answer {
+        Answer::Scheduled { count, last } => {
+            seen.scheduled += 1;
+            seen.batches += u32::from(count > 1);
+            seen.waits += u32::from(last > date);
+        }
+        Answer::Held(_) => seen.held += 1,
+        Answer::Dropped => seen.dropped += 1,
+        Answer::Refused(Refusal::S2) => seen.too_late += 1,
+        _ => {}
+    }
+    seen.lit += u32::from(lit);
+    seen.dark += u32::from(!lit);
+    seen.lit_while_held += u32::from(lit && held);
+}
+
+/// Each answer must have occurred this often.
+fn require(seen: &Seen, least: u32) {
+    let counts = [
+        seen.scheduled,
+        seen.batches,
+        seen.waits,
+        seen.held,
+        seen.dropped,
+        seen.lit,
+        seen.dark,
+        seen.lit_while_held,
+    ];
+    assert!(counts.iter().all(|count| *count >= least), "{seen:?}");
+}
+
+#[test]
+fn small_bounds_lists_of_four() {
+    // Readings above 4 act alike, so that waits of 6 are enough.
+    let trial = Trial {
+        sheets: 3000,
+        calls: 14,
+        list: 4,
+        bounds: &[Bounds { low: 0, high: 2 }, Bounds { low: 1, high: 4 }],
+        wait: 6,
+        step: 3,
+        start: 0,
+    };
+    require(&run(&trial, 1), 300);
+}
+
+#[test]
+fn all_bounds_lists_of_two() {
+    let trial = Trial {
+        sheets: 1500,
+        calls: 12,
+        list: 2,
+        bounds: &[
+            Bounds { low: 0, high: 30 },
+            Bounds { low: 26, high: 30 },
+            Bounds { low: 3, high: 12 },
+        ],
+        wait: 33,
+        step: 9,
+        start: 0,
+    };
+    require(&run(&trial, 2), 80);
+}
+
+#[test]
+fn all_bounds_lists_of_three() {
+    let trial = Trial {
+        sheets: 250,
+        calls: 8,
+        list: 3,
+        bounds: &[
+            Bounds { low: 0, high: 30 },
+            Bounds { low: 28, high: 30 },
+            Bounds { low: 5, high: 20 },
+        ],
+        wait: 33,
+        step: 9,
+        start: 0,
+    };
+    require(&run(&trial, 3), 10);
+}
+
+#[test]
+fn near_the_last_date() {
+    let trial = Trial {
+        sheets: 1500,
+        calls: 14,
+        list: 3,
+        bounds: &[Bounds { low: 0, high: 2 }, Bounds { low: 1, high: 4 }],
+        wait: 6,
+        step: 1,
+        start: LAST_DATE - 6,
+    };
+    let seen = run(&trial, 4);
+    assert!(seen.too_late >= 100, "{seen:?}");
+}

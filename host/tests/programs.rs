@@ -1,0 +1,132 @@
+//! The programs as they are run: arguments, output and exit status.
+
+mod common;
+
+use common::input;
+use host::compare::run;
+use host::course::A;
+use std::path::{Path, PathBuf};
+use std::process::{Command, Output};
+
+const REFERENCE: &str = env!("CARGO_BIN_EXE_reference");
+const GENERATE: &str = env!("CARGO_BIN_EXE_generate");
+const COMPARE: &str = env!("CARGO_BIN_EXE_compare");
+
+fn call(program: &str, arguments: &[&str]) -> Output {
+    let output = Command::new(program).args(arguments).output();
+    output.expect("the program runs")
+}
+
+fn text(bytes: &[u8]) -> String {
+    String::from_utf8_lossy(bytes).into_owned()
+}
+
+#[test]
+fn reference_prints_lines() {
+    let input = input(A, &[(0, 1), (1, 4)]);
+    let output = run(Path::new(REFERENCE), &input).expect("the program runs");
+    let expected = "sheet 2 1 2 4 2\n1 scheduled 1 1 lamp 0\n2 scheduled 1 4 lamp 0\n";
+    assert_eq!(text(&output.stdout), expected);
+    assert!(output.status.success());
+    let output = run(Path::new(REFERENCE), &[]).expect("the program runs");
+    assert_eq!(text(&output.stdout), "sheet refused I-1\n");
+}
+
+#[test]
+fn generate_writes_inputs() {
+    let list = text(&call(GENERATE, &["--list"]).stdout);
+    assert!(list.lines().any(|line| line == "long_pending"));
+    for kind in host::generate::KINDS {
+        assert!(list.lines().any(|line| line == kind.name));
+        let output = call(GENERATE, &[kind.name, "12"]);
+        assert!(output.status.success());
+        assert_eq!(output.stdout, kind.input(12));
+    }
+}
+
+#[test]
+fn wrong_arguments() {
+    let cases: [(&str, &[&str]); 10] = [
+        (REFERENCE, &["extra"]),
+        (GENERATE, &[]),
+        (GENERATE, &["one_clock"]),
+        (GENERATE, &["no_such_kind", "1"]),
+        (GENERATE, &["one_clock", "x"]),
+        (GENERATE, &["one_clock", "1", "2"]),
+        (COMPARE, &[]),
+        (COMPARE, &["program"]),
+        (COMPARE, &["program", "many"]),
+        (COMPARE, &["/no/such/program", "1"]),
+    ];
+    for (program, arguments) in cases {
+        let output = call(program, arguments);
+        assert_eq!(output.status.code(), Some(2), "{program} {arguments:?}");
+        assert!(text(&output.stderr).contains("usage"));
+        assert!(output.stdout.is_empty());
+    }
+}
+
+#[test]
+fn compare_with_the_reference() {
+    let output = call(COMPARE, &[REFERENCE, "3", "100"]);
+    let text = text(&output.stdout);
+    assert!(output.status.success(), "{text}");
+    let inputs = 3 * host::generate::KINDS.len();
+    assert!(text.starts_with(&format!("no difference: {inputs} inputs")));
+    assert!(text.contains("lamp 0") && text.contains("lamp 1"));
+}
+
+/// Writes a shell script that runs the reference and changes its lines.
+#[cfg(unix)]
+fn script(name: &str, body: &str) -> PathBuf {
+    use std::os::unix::fs::PermissionsExt;
+    let folder = Path::new(env!("CARGO_TARGET_TMPDIR"));
+    let path = folder.join(name);
+    std::fs::write(&path, format!("#!/bin/sh\n{body}\n")).expect("the script is written");
+    let mode = std::fs::Permissions::from_mode(0o755);
+    std::fs::set_permissions(&path, mode).expect("the script can be run");
+    path
+}
+
+/// Runs a comparison with a script and gives what it printed.
+#[cfg(unix)]
+fn compare_with(name: &str, body: &str) -> String {
+    let path = script(name, body);
+    let output = call(COMPARE, &[&path.to_string_lossy(), "20"]);
+    assert_eq!(output.status.code(), Some(1));
+    text(&output.stdout)
+}
+
+#[cfg(unix)]
+#[test]
+fn compare_with_a_wrong_lamp() {
+    let body = format!("'{REFERENCE}' | sed 's/lamp 1/lamp 0/'");
+    let text = compare_with("wrong-lamp.sh", &body);
+    assert!(text.starts_with("difference: kind one_clock, seed "));
+    assert!(text.contains("first line that differs: "));
+    assert!(text.contains("lamp 1\\n\"\n  found: "));
+    // The input is at hand and shows the difference again.
+    let path = text.lines().find_map(|line| line.strip_prefix("input: "));
+    let path = PathBuf::from(path.expect("the input was written"));
+    let input = std::fs::read(&path).expect("the input can be read");
+    assert!(host::desk::run(&input).contains("lamp 1"));
+    std::fs::remove_file(path).expect("the input can be removed");
+}
+
+#[cfg(unix)]
+#[test]
+fn compare_with_silence_and_more() {
+    let cases = [
+        ("silent.sh", "true", "expected: \"sheet "),
+        ("no-end.sh", "printf 'sheet'", "found:    \"sheet\""),
+        ("broken-off.sh", "kill -9 $$", "signal"),
+    ];
+    let extra = format!("'{REFERENCE}'; echo more");
+    let more = ("more.sh", extra.as_str(), "expected: (no line)");
+    for (name, body, expected) in cases.into_iter().chain([more]) {
+        let text = compare_with(name, body);
+        assert!(text.contains(expected), "{text}");
+        let path = text.lines().find_map(|line| line.strip_prefix("input: "));
+        std::fs::remove_file(path.expect("the input was written")).expect("it can be removed");
+    }
+}
