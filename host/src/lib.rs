@@ -8,6 +8,7 @@ pub mod desk;
 pub mod generate;
 pub mod limits;
 pub mod monitor;
+pub mod question;
 pub mod random;
 pub mod refusal;
 pub mod runs;

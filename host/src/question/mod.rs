@@ -1,0 +1,63 @@
+//! Questions as text: a trainer writes a sheet and calls in words, and the
+//! desk program reads them as bytes.
+
+mod bytes;
+mod compile;
+mod header;
+mod print;
+mod rules;
+mod scope;
+mod words;
+
+use crate::generate::Draft;
+use std::fmt;
+
+/// A sheet and the calls made on its box, each field as the bytes have it.
+#[derive(Clone, Debug)]
+struct Question {
+    sheet: Draft,
+    calls: Vec<Call>,
+    /// The bytes left over after the last call, fewer than a call has.
+    tail: Vec<u8>,
+}
+
+/// A call with its arguments.
+#[derive(Clone, Copy, Debug)]
+enum Call {
+    Offer { action: u8, date: u32 },
+    Collect { date: u32 },
+}
+
+/// Which faults of a text are mistakes.
+#[derive(Clone, Copy, Debug, PartialEq, Eq)]
+pub enum Checks {
+    /// Also those for which the desk program refuses the sheet.
+    All,
+    /// Only those that the bytes cannot express.
+    Bytes,
+}
+
+/// A mistake in a text; lines are numbered from 1.
+#[derive(Clone, Debug, PartialEq, Eq)]
+pub struct Mistake {
+    pub line: usize,
+    pub message: String,
+}
+
+impl fmt::Display for Mistake {
+    fn fmt(&self, out: &mut fmt::Formatter<'_>) -> fmt::Result {
+        write!(out, "line {}: {}", self.line, self.message)
+    }
+}
+
+/// Turns a text into the desk program's input, or gives all its mistakes in
+/// the order of their lines.
+pub fn encode(text: &str, checks: Checks) -> Result<Vec<u8>, Vec<Mistake>> {
+    compile::compile(text, checks).map(|question| bytes::write(&question))
+}
+
+/// Turns the desk program's input into text, or says why no text gives it.
+/// If the desk program refuses the sheet, `Checks::Bytes` leads back.
+pub fn decode(input: &[u8]) -> Result<String, String> {
+    bytes::read(input).map(|question| print::print(&question))
+}
