@@ -69,7 +69,7 @@ begun-at s c l x y w v n h k d e f =
     rw (a, b) (begun s c l x y h k)
 
 -- One more is there to look at.
-next : (s : Bytes) (p e : ℕ) → p < e → (e - p) % 7 ≡ 0 → transitionsFrom s ((e - p) / 7) p ≡ transitionAt s p ∷ transitionsFrom s ((e - (p + 7)) / 7) (p + 7)
+pub next : (s : Bytes) (p e : ℕ) → p < e → (e - p) % 7 ≡ 0 → transitionsFrom s ((e - p) / 7) p ≡ transitionAt s p ∷ transitionsFrom s ((e - (p + 7)) / 7) (p + 7)
 next s p e h k = let n : (e - p) / 7 ≡ suc ((e - (p + 7)) / 7) = omega arith in rw n refl
 
 module _ {s : Bytes} {c : ℕ} {q : Configuration} {p e : ℕ} (m : Remaining s c q p e) where

@@ -17,3 +17,9 @@ pub mod sheet;
 
 // The transition that an action takes.
 pub mod lookup;
+
+// From where an accepting location can still be reached.
+pub mod liveness;
+
+// The least ticks for a list of actions, and their dates.
+pub mod optimum;
