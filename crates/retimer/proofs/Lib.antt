@@ -6,3 +6,11 @@ pub mod Leading
 pub mod LiveTable
 pub mod Prospects
 pub mod Walk
+pub mod Arrays
+pub mod Views
+pub mod CallLaws
+pub mod Decisions
+pub mod Stuck
+pub mod Loads
+pub mod Replays
+pub mod Demand3

@@ -5,3 +5,7 @@ pub mod Checked
 pub mod Live
 pub mod Optimum
 pub mod Search
+pub mod View
+pub mod Calls
+pub mod Replay
+pub mod Demand3

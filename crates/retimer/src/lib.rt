@@ -23,3 +23,15 @@ pub mod liveness;
 
 // The least ticks for a list of actions, and their dates.
 pub mod optimum;
+
+// Whether a list of actions, or any next action, can still come to acceptance.
+pub mod lamp;
+
+// Lists that are kept at the front of arrays.
+pub mod lists;
+
+// The box's calls.
+pub mod monitor;
+
+// A list of calls on a fresh box.
+pub mod replay;

@@ -1,0 +1,105 @@
+-- Laws of loading: what the check's answer says of the sheet, and that the box made of a sheet is a fresh one.
+-- Assumes nothing.
+use mathlib.Core.Path.{_≡_, refl, ap, sym, _∙_}
+use mathlib.Core.Bool.{Bool, true, false, cond}
+use mathlib.Core.List.{List, [], _∷_}
+use mathlib.Core.Logic.{_⊎_, inl, inr}
+use Prim.Native.Nat.{ℕ, _≤_, min}
+use native.Mathlib.Omega.{arith}
+use lib.ListN.{length, take}
+use borrow.Author.Tests.{eq-eqb, ne-eqb}
+use Rattle.enforcement.specs.Limits.{maxSize, maxCount, maxScheduled}
+use Rattle.enforcement.specs.Automaton.{Bytes, automaton, clocks, initial}
+use Rattle.enforcement.specs.Loading.{Loads, check}
+use Rattle.enforcement.specs.Reason as model-reason
+use Rattle.enforcement.specs.Loading as loading
+use Rattle.enforcement.specs.Model.{top, oneClock}
+use Rattle.enforcement.specs.Monitor.{freshMonitor, replay}
+use Rattle.enforcement.specs.Monitor as model
+use Rattle.enforcement.proofs.Loading.{size-fits, initial-fits, loads-check, check-right}
+use Rattle.retimer.specs.declared.limits.Slot.{Slot}
+use Rattle.retimer.specs.declared.limits.Monitor.{Monitor}
+use Rattle.retimer.specs.declared.reason.Reason.{Reason}
+use Rattle.retimer.specs.declared.sheet.Counts.{Counts}
+use Rattle.retimer.specs.declared.sheet.Checked.{Checked}
+use Rattle.retimer.specs.declared.sheet.Checked.the-variants.{Accepted, Refused}
+use Rattle.retimer.specs.Reasons.{reasonOf}
+use Rattle.retimer.specs.Checked.{figuresOf, checkedOf}
+use Rattle.retimer.specs.Readings.{Standing}
+use Rattle.retimer.specs.Live.{LiveTable}
+use Rattle.retimer.specs.View.{viewOf}
+use Rattle.retimer.specs.Calls.{FreshRight}
+
+-- ---- The check's answer
+
+pub accepted-loads : (s : Bytes) (v : Checked) (k : Counts) → v ≡ Accepted k → checkedOf v ≡ check s → Loads s
+accepted-loads s v k e f = go (check-right s .one-of)
+  where
+    g : loading.accepted (figuresOf k) ≡ check s
+    g = ap checkedOf (sym e) ∙ f
+
+    go : (check s ≡ loading.accepted (loading.countsOf s)) ⊎ ((r : model-reason.Reason) × (check s ≡ loading.refused r)) → Loads s
+    go (inl a) = check-right s .accepts .0 a
+    go (inr a) = let z : _≡_ {A = ℕ} 0 1 = cc (g, a .1) in absurd (omega arith)
+
+pub refused-loads : (s : Bytes) (v : Checked) (r : Reason) → v ≡ Refused r → checkedOf v ≡ check s → Loads s → ⊥
+refused-loads s v r e f l =
+    let a = loads-check s l in
+    let g : loading.refused (reasonOf r) ≡ check s = ap checkedOf (sym e) ∙ f in
+    let z : _≡_ {A = ℕ} 0 1 = cc (g, a) in omega arith
+
+-- ---- A fresh box
+
+-- The box of a sheet: its bytes in front of b, its live table, no action pending or scheduled, and at the initial location with a second clock that reads y.
+abbrev pub madeOf : Bytes → Bytes → List ℕ → List ℕ → List Slot → ℕ → Monitor
+madeOf s b live pending slots y = record { bytes = b; size = length s; live = live; date = 0; pending = pending; held = 0; schedule = slots; planned = 0; location = initial s; readings = 0 ∷ y ∷ []; last = 0 }
+
+-- The second clock's reading, saturated where there is no second clock.
+pub second-is : (s : Bytes) (y : ℕ) → ((clocks s ≡ 1) × (y ≡ top)) ⊎ ((clocks s ≡ 1 → ⊥) × (y ≡ 0)) → y ≡ cond (oneClock (automaton s)) top 0
+second-is s y (inl h) = rw (eq-eqb (clocks s) 1 (h .0)) (h .1)
+second-is s y (inr h) = rw (ne-eqb (clocks s) 1 (h .0)) (h .1)
+
+module _ (s b : Bytes) (live pending : List ℕ) (slots : List Slot) (y : ℕ) (loads : Loads s) (front : take (length s) b ≡ s) (second : y ≡ cond (oneClock (automaton s)) top 0) where
+  fresh-stands : Standing s (initial s) (0 ∷ y ∷ [])
+  fresh-stands = record { in-sheet = initial-fits s loads; readings = record { two = refl; first = omega arith; second = go (oneClock (automaton s)) y second }; one-clock = λ e. rw (eq-eqb (clocks s) 1 e) at second }
+    where
+      go : (x : Bool) (n : ℕ) → n ≡ cond x top 0 → n ≤ top
+      go true n e = omega arith
+      go false n e = omega arith
+
+  fresh-view : viewOf (madeOf s b live pending slots y) ≡ freshMonitor (automaton s)
+  unfolding viewOf
+  fresh-view = ap (λ (n : ℕ). viewAt n) (second ∙ go (oneClock (automaton s)))
+    where
+      viewAt : ℕ → model.Monitor
+      viewAt n = record { date = 0; pending = []; schedule = []; configuration = record { location = initial s; x = 0; y = n }; last = 0 }
+
+      go : (x : Bool) → cond x top 0 ≡ cond x top (min 0 top)
+      go true = refl
+      go false = refl
+
+  pub fresh-right : length b ≡ maxSize → LiveTable s live → length pending ≡ maxCount → length slots ≡ maxScheduled → FreshRight s (madeOf s b live pending slots y)
+  unfolding replay
+  fresh-right n t p q =
+      let v : viewOf (madeOf s b live pending slots y) ≡ freshMonitor (automaton (take (length s) b)) = rw front fresh-view in
+      record {
+        is = v;
+        sheet = front;
+        valid = record {
+          sound = record {
+            bytes-sized = n;
+            size-fits = size-fits s loads .1;
+            loads = rw front loads;
+            table = rw front t;
+            pending-sized = p;
+            held-fits = omega arith;
+            schedule-sized = q;
+            planned-fits = omega arith;
+            standing = rw front fresh-stands;
+            date-fits = omega arith;
+            last-fits = omega arith;
+          };
+          past = [];
+          reached = v;
+        };
+      }

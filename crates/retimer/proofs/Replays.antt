@@ -1,0 +1,87 @@
+-- Laws of a list of calls in bytes.
+-- Assumes nothing.
+use mathlib.Core.Path.{_≡_, refl, ap, sym, _∙_, subst}
+use mathlib.Core.List.{List, [], _∷_, _++_, map-append}
+use Prim.Native.Nat.{ℕ, zero, suc, _+_, _*_, _/_, _%_, _≤_, _<_}
+use native.Mathlib.Omega.{arith}
+use lib.ListN.{length}
+use borrow.Author.Tests.{eq-eqb, ne-eqb}
+use Rattle.enforcement.specs.Automaton.{Bytes, byte, word}
+use Rattle.enforcement.specs.History.{Call, offer, collect, Outcome, nothing}
+use Rattle.retimer.specs.declared.limits.Monitor.{Monitor}
+use Rattle.retimer.specs.declared.monitor.Answer.{Answer}
+use Rattle.retimer.specs.declared.monitor.Answer.the-variants.{Nothing}
+use Rattle.retimer.specs.declared.monitor.Answered.{Answered}
+use Rattle.retimer.specs.declared.sheet.Checked.{Checked}
+use Rattle.retimer.specs.View.{Valid}
+use Rattle.retimer.specs.Calls.{outcomeOf, CallRight, FreshRight}
+use Rattle.retimer.specs.Demand3.{Made, end, outcomesOf, DemandThree}
+use Rattle.retimer.specs.Replay.{dateAt, callAt, callsFrom, callsOf, lastOutcome, Followed}
+use Rattle.retimer.proofs.Demand3.{made-one-more, made-valid, demand-three}
+
+-- ---- One call
+
+pub date-is : (s : Bytes) (i a b : ℕ) → a ≡ word s i → b ≡ word s (i + 2) → a + 65536 * b ≡ dateAt s i
+date-is s i a b e f = let z : i + 2 + 1 ≡ i + 3 = omega arith in omega (arith, rw z at f)
+
+pub call-collect : (s : Bytes) (i t : ℕ) (b : Monitor) (r : Answered) → byte s i ≡ 255 → t ≡ dateAt s (i + 1) → CallRight b (collect t) r → CallRight b (callAt s i) r
+call-collect s i t b r e f c = rw (eq-eqb (byte s i) 255 e, ← f) c
+
+pub call-offer : (s : Bytes) (i t : ℕ) (b : Monitor) (r : Answered) → (byte s i ≡ 255 → ⊥) → t ≡ dateAt s (i + 1) → CallRight b (offer (byte s i) t) r → CallRight b (callAt s i) r
+call-offer s i t b r e f c = rw (ne-eqb (byte s i) 255 e, ← f) c
+
+-- ---- The calls so far
+
+calls-one-more : (s : Bytes) (n i : ℕ) → callsFrom s (suc n) i ≡ callsFrom s n i ++ (callAt s (i + 5 * n) ∷ [])
+unfolding callsFrom
+calls-one-more s zero i = let z : i + 5 * 0 ≡ i = omega arith in rw z
+calls-one-more s (suc n) i = let z : i + 5 * suc n ≡ i + 5 + 5 * n = omega arith in rw z (ap (λ (l : List Call). callAt s i ∷ l) (calls-one-more s n (i + 5)))
+
+last-one-more : (o p : Outcome) (os : List Outcome) → lastOutcome o (os ++ (p ∷ [])) ≡ p
+last-one-more o p [] = refl
+last-one-more o p (q ∷ os) = last-one-more q p os
+
+-- After the calls in the first i bytes, from the box b₀: what was answered, and the box that they left.
+pub record Replaying (b₀ : Monitor) (s : Bytes) (i : ℕ) (b : Monitor) (a : Answer) : Type 0 where
+  pub answers : List Answer
+  pub made : Made b₀ (callsFrom s (i / 5) 0) answers b
+  pub last-is : outcomeOf a ≡ lastOutcome nothing (outcomesOf answers)
+  pub whole : i % 5 ≡ 0
+  pub inside : i ≤ length s
+
+pub replaying-none : (b₀ : Monitor) (s : Bytes) → Replaying b₀ s 0 b₀ Nothing
+unfolding callsFrom
+replaying-none b₀ s = record { answers = []; made = end; last-is = refl; whole = refl; inside = omega arith }
+
+pub replaying-one : (b₀ : Monitor) (s : Bytes) (i : ℕ) (b : Monitor) (a : Answer) (r : Answered) → Replaying b₀ s i b a → i + 5 ≤ length s → CallRight b (callAt s i) r → Replaying b₀ s (i + 5) (r .monitor) (r .answer)
+replaying-one b₀ s i b a r p h c =
+    let n : (i + 5) / 5 ≡ suc (i / 5) = omega arith in
+    let k : 0 + 5 * (i / 5) ≡ i = omega (arith, p .whole) in
+    let e : callsFrom s ((i + 5) / 5) 0 ≡ callsFrom s (i / 5) 0 ++ (callAt s i ∷ []) = rw n (calls-one-more s (i / 5) 0 ∙ ap (λ (j : ℕ). callsFrom s (i / 5) 0 ++ (callAt s j ∷ [])) k) in
+    record {
+      answers = p .answers ++ (r .answer ∷ []);
+      made = subst (λ (ks : List Call). Made b₀ ks (p .answers ++ (r .answer ∷ [])) (r .monitor)) (sym e) (made-one-more r c (p .made));
+      last-is = sym (ap (lastOutcome nothing) (map-append outcomeOf (p .answers) (r .answer ∷ [])) ∙ last-one-more nothing (outcomeOf (r .answer)) (outcomesOf (p .answers)));
+      whole = omega (arith, p .whole);
+      inside = h;
+    }
+
+pub replaying-valid : (b₀ : Monitor) (s : Bytes) (i : ℕ) (b : Monitor) (a : Answer) → Valid b₀ → Replaying b₀ s i b a → Valid b
+replaying-valid b₀ s i b a v p = made-valid v (p .made)
+
+pub replaying-all : (sheet : Bytes) (b₀ : Monitor) (s : Bytes) (i : ℕ) (b : Monitor) (a : Answer) (k : Checked) → FreshRight sheet b₀ → Replaying b₀ s i b a → length s < i + 5 → Followed sheet (callsOf s) nothing (record { checked = k; monitor = b; answer = a })
+replaying-all sheet b₀ s i b a k f p h =
+    let n : i / 5 ≡ length s / 5 = omega (arith, p .whole, p .inside) in
+    let m : Made b₀ (callsOf s) (p .answers) b = rw n at (p .made) in
+    let d : DemandThree sheet (callsOf s) (p .answers) b = demand-three sheet b₀ f (callsOf s) (p .answers) b m in
+    record {
+      outcomes = outcomesOf (p .answers);
+      history = d .history;
+      recorded = d .recorded;
+      answer-is = p .last-is;
+      date-is = d .date-is;
+      pending-is = d .pending-is;
+      schedule-is = d .schedule-is;
+      sheet-is = d .sheet-is;
+      valid = d .valid;
+    }

@@ -1,0 +1,37 @@
+-- `Monitor::fresh` meets its contract: what is put together is a fresh box.
+-- Assumes nothing.
+use mathlib.Core.Logic.{inl, inr, ⊎-elim}
+use mathlib.Core.Path.{refl}
+use native.Mathlib.Omega.{arith}
+use borrow.Author.Needs.{needs}
+use Rattle.enforcement.proofs.Loading.{size-fits}
+use Rattle.retimer.proofs.Loads.{second-is, fresh-right}
+use Rattle.retimer.proofs.limits.Monitor.fresh.Statement.{statement}
+use Rattle.retimer.proofs.limits.Monitor.fresh.Tie as tie
+
+live-table-requires : tie.Need-live-table-requires
+live-table-requires c κs = search needs
+
+copied-requires : tie.Need-copied-requires
+copied-requires c κs = size-fits (c .before .before .before .args .s .now) (c .before .before .before .pre) .1
+
+shared-slice-read-if1 : tie.Need-shared-slice-read-if1
+shared-slice-read-if1 c = omega (arith, size-fits (c .before .before .before .before .before .args .s .now) (c .before .before .before .before .before .pre))
+
+shared-slice-read-t7 : tie.Need-shared-slice-read-t7
+shared-slice-read-t7 c = omega (arith, size-fits (c .before .before .before .before .before .before .before .args .s .now) (c .before .before .before .before .before .before .before .pre))
+
+returns : tie.Need-returns
+returns c =
+    let a = c .before .before .before .before .before .before .before in
+    fresh-right (a .args .s .now) (c .before .before .before .copied .result) (c .before .before .before .before .before .live-table .result .sets) _ _ (c .before .if1 .second) (a .pre) (c .before .before .before .copied .ensures .0) (second-is (a .args .s .now) (c .before .if1 .second) (⊎-elim (λ w. inl (w .0 .taken, w .1)) (λ w. inr (w .0 .left, w .1)) (c .before .if1 .came))) (c .before .before .before .copied .ensures .1) (c .before .before .before .before .before .live-table .ensures) refl refl
+
+pub fresh-spec : {M : Type 1} → statement M
+fresh-spec =
+    tie.close
+    (tie.spec
+    live-table-requires
+    copied-requires
+    shared-slice-read-if1
+    shared-slice-read-t7
+    returns)

@@ -1,0 +1,44 @@
+-- `replay::call_at` meets its contract, for a collection and for an offer.
+-- Assumes nothing.
+use native.Mathlib.Omega.{arith}
+use borrow.Author.Needs.{needs}
+use Rattle.retimer.proofs.Replays.{call-collect, call-offer}
+use Rattle.retimer.proofs.replay.call_at.Statement.{statement}
+use Rattle.retimer.proofs.replay.call_at.Tie as tie
+
+add-date-at : tie.Need-add-date-at
+add-date-at c = search needs
+
+date-at-requires : tie.Need-date-at-requires
+date-at-requires c κs = search needs
+
+shared-slice-read-c : tie.Need-shared-slice-read-c
+shared-slice-read-c c = search needs
+
+collect-requires : tie.Need-collect-requires
+collect-requires c κs = search needs
+
+returns : tie.Need-returns
+returns c =
+    let a = c .before .before .before .before .before in
+    call-collect (a .args .s .now) (a .args .i) (c .before .before .before .date-at .result) (a .args .b) (c .collect .result) (omega (arith, c .before .if1 .taken)) (c .before .before .before .date-at .ensures) (c .collect .ensures)
+
+offer-requires : tie.Need-offer-requires
+offer-requires c κs = search needs
+
+returns-2 : tie.Need-returns-2
+returns-2 c =
+    let a = c .before .before .before .before .before in
+    call-offer (a .args .s .now) (a .args .i) (c .before .before .before .date-at .result) (a .args .b) (c .offer .result) (c .before .if1 .left) (c .before .before .before .date-at .ensures) (c .offer .ensures)
+
+pub call-at-spec : {M : Type 1} → statement M
+call-at-spec =
+    tie.close
+    (tie.spec
+    add-date-at
+    date-at-requires
+    shared-slice-read-c
+    collect-requires
+    returns
+    offer-requires
+    returns-2)

@@ -1,0 +1,87 @@
+-- What the calls of the box promise.
+use mathlib.Core.Path.{_≡_}
+use mathlib.Core.List.{List, _∷_, [], _++_}
+use Prim.Native.Nat.{ℕ, _+_, _-_, _≤_}
+use lib.Dec.{ltb}
+use lib.ListN.{length, take, getD}
+use Rattle.enforcement.specs.Limits.{maxScheduled, maxDate}
+use Rattle.enforcement.specs.Automaton.{Bytes}
+use Rattle.enforcement.specs.Loading.{Loads, check}
+use Rattle.enforcement.specs.History.{History, Call, actionsOf, Outcome, scheduled, held, dropped, played, nothing, lit, dark, refused}
+use Rattle.enforcement.specs.Monitor as model
+use Rattle.enforcement.specs.Monitor.{answer, freshMonitor, placed, earliest, standing, joins, walk}
+use Rattle.enforcement.specs.Demands.{StandsFor, Demand2}
+use Rattle.retimer.specs.declared.limits.Monitor.{Monitor}
+use Rattle.retimer.specs.declared.monitor.Answer.{Answer}
+use Rattle.retimer.specs.declared.monitor.Answer.the-variants.{Scheduled, Held, Dropped, Played, Nothing, Lit, Dark, Refused}
+use Rattle.retimer.specs.declared.monitor.Answered.{Answered}
+use Rattle.retimer.specs.declared.monitor.Loaded.{Loaded}
+use Rattle.retimer.specs.declared.reason.Reason.{Reason}
+use Rattle.retimer.specs.Reasons.{reasonOf}
+use Rattle.retimer.specs.Checked.{checkedOf}
+use Rattle.retimer.specs.Readings.{located, Standing}
+use Rattle.retimer.specs.Optimum.{modelOf}
+use Rattle.retimer.specs.View.{bytesOf, automatonOf, viewOf, Sound, Valid}
+
+-- Document 01's outcome of each answer.
+abbrev pub outcomeOf : Answer → Outcome
+outcomeOf (Scheduled n d) = scheduled n d
+outcomeOf (Held n) = held
+outcomeOf Dropped = dropped
+outcomeOf (Played c d) = played c d
+outcomeOf Nothing = nothing
+outcomeOf Lit = lit
+outcomeOf Dark = dark
+outcomeOf (Refused r) = refused (reasonOf r)
+
+-- The answer and the box as the model has them.
+abbrev pub answeredOf : Answered → model.Answered
+answeredOf r = record { outcome = outcomeOf (r .answer); monitor = viewOf (r .monitor) }
+
+-- What the parts of a call promise: answer and box are those given; the sheet is kept; a refusal hands back the box that came; "held" has the held list's own length.
+pub record Done (b : Monitor) (w : model.Answered) (r : Answered) : Type 0 where
+  pub is : answeredOf r ≡ w
+  pub sound : Sound (r .monitor)
+  pub same-sheet : bytesOf (r .monitor) ≡ bytesOf b
+  pub refused-same : (q : Reason) → r .answer ≡ Refused q → r .monitor ≡ b
+  pub held-count : (n : ℕ) → r .answer ≡ Held n → n ≡ length (viewOf (r .monitor) .pending)
+
+-- The action that joins the pending ones: the last of those to place.
+abbrev pub lastAction : Monitor → List ℕ → ℕ
+lastAction b cs = getD cs (b .held) 0
+
+abbrev pub newDates : Monitor → List ℕ → List ℕ
+newDates b ds = take (b .held + 1) ds
+
+-- What case 1 is given: the pending actions with one more, their dates, and the configuration that these reach.
+pub record PlaceAsked (b : Monitor) (t : ℕ) (cs ds : List ℕ) (l : ℕ) (r : List ℕ) : Type 0 where
+  pub sound : Sound b
+  pub early : t ≤ maxDate
+  pub joined : take (b .held + 1) cs ≡ take (b .held) (b .pending) ++ (lastAction b cs ∷ [])
+  pub stands : Standing (bytesOf b) l r
+  pub reached : located l r ≡ walk (modelOf (bytesOf b) .step) (actionsOf (joins (viewOf b) (lastAction b cs))) (newDates b ds) (earliest (viewOf b) t) (standing (viewOf b) t)
+
+-- Case 1 of the model.
+abbrev pub placedOf : Monitor → ℕ → List ℕ → List ℕ → ℕ → model.Answered
+placedOf b t cs ds last = placed (modelOf (bytesOf b)) (viewOf b) (lastAction b cs) t (newDates b ds) last (ltb maxDate last) (ltb (maxScheduled - length (viewOf b .schedule)) (length (joins (viewOf b) (lastAction b cs))))
+
+-- What a call promises (demand 2): answer and box are the model's; for every history that the box stands for, the answer is the history's, and the box
+-- stands for the history after it; the box is one, of the same sheet; a refusal hands back the box that came; "held" has the held list's own length.
+pub record CallRight (b : Monitor) (k : Call) (r : Answered) : Type 0 where
+  pub is : answeredOf r ≡ answer (modelOf (bytesOf b)) (viewOf b) k
+  pub rule : (h : History) → StandsFor (automatonOf b) (viewOf b) h → Demand2 (automatonOf b) h k (answeredOf r)
+  pub valid : Valid (r .monitor)
+  pub same-sheet : bytesOf (r .monitor) ≡ bytesOf b
+  pub refused-same : (q : Reason) → r .answer ≡ Refused q → r .monitor ≡ b
+  pub held-count : (n : ℕ) → r .answer ≡ Held n → n ≡ length (viewOf (r .monitor) .pending)
+
+-- What a fresh box is: a box of the sheet, with nothing pending or scheduled.
+pub record FreshRight (s : Bytes) (b : Monitor) : Type 0 where
+  pub is : viewOf b ≡ freshMonitor (automatonOf b)
+  pub sheet : bytesOf b ≡ s
+  pub valid : Valid b
+
+-- What a load promises: the check's answer; where that accepts the sheet, a fresh box. After a refusal no promise speaks of what stands in the box's place.
+pub record LoadRight (s : Bytes) (r : Loaded) : Type 0 where
+  pub checked : checkedOf (r .checked) ≡ check s
+  pub fresh : Loads s → FreshRight s (r .monitor)

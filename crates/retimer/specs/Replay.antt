@@ -1,0 +1,45 @@
+-- A list of calls as the desk program reads them, and what replaying it promises.
+use mathlib.Core.Path.{_≡_}
+use mathlib.Core.Bool.{cond}
+use mathlib.Core.List.{List, [], _∷_}
+use Prim.Native.Nat.{ℕ, zero, suc, _+_, _*_, _/_}
+use lib.Dec.{eqb}
+use lib.ListN.{length}
+use Rattle.enforcement.specs.Automaton.{Bytes, byte, automaton}
+use Rattle.enforcement.specs.History.{History, fresh, schedule, HistoryOf, Call, offer, collect, Outcome}
+use Rattle.retimer.specs.declared.replay.Replayed.{Replayed}
+use Rattle.retimer.specs.View.{pendingOf, scheduleOf, bytesOf, Valid}
+use Rattle.retimer.specs.Calls.{outcomeOf}
+
+-- A date in four bytes, low byte first.
+abbrev pub dateAt : Bytes → ℕ → ℕ
+dateAt s i = byte s i + 256 * byte s (i + 1) + 65536 * byte s (i + 2) + 16777216 * byte s (i + 3)
+
+-- A call in five bytes: an action, or 255 for a collection, and a date.
+abbrev pub callAt : Bytes → ℕ → Call
+callAt s i = cond (eqb (byte s i) 255) (collect (dateAt s (i + 1))) (offer (byte s i) (dateAt s (i + 1)))
+
+unfoldable pub callsFrom : Bytes → ℕ → ℕ → List Call
+callsFrom s zero i = []
+callsFrom s (suc n) i = callAt s i ∷ callsFrom s n (i + 5)
+
+-- The whole calls of a list of bytes; one to four bytes left over are no call.
+abbrev pub callsOf : Bytes → List Call
+callsOf s = callsFrom s (length s / 5) 0
+
+-- The last outcome; o if there is none.
+abbrev pub lastOutcome : Outcome → List Outcome → Outcome
+lastOutcome o [] = o
+lastOutcome o (p ∷ os) = lastOutcome p os
+
+-- The history of the calls from a fresh box: its outcomes end in the answer, and its date, pending actions and schedule are the box's.
+pub record Followed (s : Bytes) (ks : List Call) (start : Outcome) (r : Replayed) : Type 0 where
+  pub outcomes : List Outcome
+  pub history : History
+  pub recorded : HistoryOf (automaton s) (fresh (automaton s)) ks outcomes history
+  pub answer-is : outcomeOf (r .answer) ≡ lastOutcome start outcomes
+  pub date-is : r .monitor .date ≡ history .date
+  pub pending-is : pendingOf (r .monitor) ≡ history .pending
+  pub schedule-is : scheduleOf (r .monitor) ≡ schedule history
+  pub sheet-is : bytesOf (r .monitor) ≡ s
+  pub valid : Valid (r .monitor)
