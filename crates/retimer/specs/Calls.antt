@@ -38,6 +38,10 @@ outcomeOf (Refused r) = refused (reasonOf r)
 abbrev pub answeredOf : Answered → model.Answered
 answeredOf r = record { outcome = outcomeOf (r .answer); monitor = viewOf (r .monitor) }
 
+-- A refusal hands back the box that came.
+abbrev pub refusal : Monitor → Reason → Answered
+refusal b q = record { monitor = b; answer = Refused q }
+
 -- What the parts of a call promise: answer and box are those given; the sheet is kept; a refusal hands back the box that came; "held" has the held list's own length.
 pub record Done (b : Monitor) (w : model.Answered) (r : Answered) : Type 0 where
   pub is : answeredOf r ≡ w

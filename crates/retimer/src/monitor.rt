@@ -21,7 +21,7 @@ ghost use Rattle.enforcement.specs.History.{offer, collect, lamp, nothing};
 ghost use Rattle.enforcement.specs.Monitor.{kept, dated, checked, oldest};
 ghost use Rattle.retimer.specs.Optimum.{modelOf};
 ghost use Rattle.retimer.specs.View.{bytesOf, viewOf, Sound, Valid};
-ghost use Rattle.retimer.specs.Calls.{Done, PlaceAsked, placedOf, CallRight, FreshRight, LoadRight};
+ghost use Rattle.retimer.specs.Calls.{refusal, Done, PlaceAsked, placedOf, CallRight, FreshRight, LoadRight};
 
 // What a call answers.
 pub enum Answer {
@@ -123,28 +123,29 @@ impl Monitor {
         self.bytes[2]
     }
 
+    // The box as it came, with the reason.
+    fn refuse(self, reason: Reason) -> Answered
+        ensures { λ r. ⌜ r ≡ refusal self reason ⌝ }
+    {
+        Answered {
+            monitor: self,
+            answer: Answer::Refused(reason),
+        }
+    }
+
     // An action at a date.
     pub fn offer(self, c: u8, t: u32) -> Answered
         requires { ⌜ Valid self ⌝ }
         ensures { λ r. ⌜ CallRight self (offer c t) r ⌝ }
     {
         if self.actions() <= c {
-            return Answered {
-                monitor: self,
-                answer: Answer::Refused(Reason::I7),
-            };
+            return self.refuse(Reason::I7);
         }
         if Monitor::LATEST < t {
-            return Answered {
-                monitor: self,
-                answer: Answer::Refused(Reason::I8),
-            };
+            return self.refuse(Reason::I8);
         }
         if t < self.date {
-            return Answered {
-                monitor: self,
-                answer: Answer::Refused(Reason::S1),
-            };
+            return self.refuse(Reason::S1);
         }
         self.decide(c, t)
     }
@@ -204,10 +205,7 @@ impl Monitor {
     {
         let n = self.held;
         if Monitor::COUNT <= n {
-            return Answered {
-                monitor: self,
-                answer: Answer::Refused(Reason::S4),
-            };
+            return self.refuse(Reason::S4);
         }
         self.pending[n] = c;
         self.held = n + 1;
@@ -234,16 +232,10 @@ impl Monitor {
         let n = self.planned;
         let k = self.held + 1;
         if Monitor::LATEST < last {
-            return Answered {
-                monitor: self,
-                answer: Answer::Refused(Reason::S2),
-            };
+            return self.refuse(Reason::S2);
         }
         if Monitor::SCHEDULED - n < k {
-            return Answered {
-                monitor: self,
-                answer: Answer::Refused(Reason::S3),
-            };
+            return self.refuse(Reason::S3);
         }
         let slots = self.schedule;
         let more = lists::with_slots(slots, n, cs, ds, k);
@@ -269,16 +261,10 @@ impl Monitor {
         ensures { λ r. ⌜ CallRight self (collect t) r ⌝ }
     {
         if Monitor::LATEST < t {
-            return Answered {
-                monitor: self,
-                answer: Answer::Refused(Reason::I8),
-            };
+            return self.refuse(Reason::I8);
         }
         if t < self.date {
-            return Answered {
-                monitor: self,
-                answer: Answer::Refused(Reason::S1),
-            };
+            return self.refuse(Reason::S1);
         }
         self.play(t)
     }

@@ -6,8 +6,13 @@ use Rattle.retimer.proofs.Views.{full-done, held-done}
 use Rattle.retimer.proofs.limits.Monitor.hold.Statement.{statement}
 use Rattle.retimer.proofs.limits.Monitor.hold.Tie as tie
 
+refuse-requires : tie.Need-refuse-requires
+refuse-requires c κs = search needs
+
 returns : tie.Need-returns
-returns c = full-done (c .before .args .t1) (c .before .args .c) (c .before .args .t) (c .before .pre .0) (omega (arith, c .if1 .taken))
+returns c =
+    let a = c .before .before in
+    rw (c .refuse .ensures) (full-done (a .args .t1) (a .args .c) (a .args .t) (a .pre .0) (omega (arith, c .before .if1 .taken)))
 
 element-write-self : tie.Need-element-write-self
 element-write-self c = search needs
@@ -15,14 +20,18 @@ element-write-self c = search needs
 add-self : tie.Need-add-self
 add-self c = search needs
 
-add-t12 : tie.Need-add-t12
-add-t12 c = search needs
+add-t11 : tie.Need-add-t11
+add-t11 c = search needs
 
-cast-t14 : tie.Need-cast-t14
-cast-t14 c = search needs
+cast-t13 : tie.Need-cast-t13
+cast-t13 c = search needs
 
 returns-2 : tie.Need-returns-2
-returns-2 c = held-done (c .before .args .t1) (c .before .args .c) (c .before .args .t) (c .before .pre .0) (c .before .pre .1) (omega (arith, c .if1 .left))
+returns-2 c =
+    let a = c .before in
+    held-done (a .args .t1) (a .args .c) (a .args .t) (a .pre .0) (a .pre .1) (omega (arith, c .if1 .left))
 
 pub hold-spec : {M : Type 1} → statement M
-hold-spec = tie.close (tie.spec returns element-write-self add-self add-t12 cast-t14 returns-2)
+hold-spec =
+    tie.close
+    (tie.spec refuse-requires returns element-write-self add-self add-t11 cast-t13 returns-2)

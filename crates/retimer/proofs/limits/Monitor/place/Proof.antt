@@ -9,18 +9,24 @@ use Rattle.retimer.proofs.limits.Monitor.place.Tie as tie
 add-k : tie.Need-add-k
 add-k c = search needs
 
+refuse-requires : tie.Need-refuse-requires
+refuse-requires c κs = search needs
+
 returns : tie.Need-returns
 returns c =
-    let a = c .before .before in
-    late-done (a .args .self) (a .args .t) (a .args .cs) (a .args .ds) (a .args .last) (a .pre .sound) (omega (arith, c .if1 .taken))
+    let a = c .before .before .before in
+    rw (c .refuse .ensures) (late-done (a .args .self) (a .args .t) (a .args .cs) (a .args .ds) (a .args .last) (a .pre .sound) (omega (arith, c .before .if1 .taken)))
 
 sub-if2 : tie.Need-sub-if2
 sub-if2 c = search needs
 
+refuse-requires-2 : tie.Need-refuse-requires-2
+refuse-requires-2 c κs = search needs
+
 returns-2 : tie.Need-returns-2
 returns-2 c =
-    let a = c .before .before .before in
-    crowded-done (a .args .self) (a .args .t) (a .args .cs) (a .args .ds) (a .args .last) (a .pre .sound) (omega (arith, c .before .if1 .left)) (omega (arith, c .if2 .taken))
+    let a = c .before .before .before .before in
+    rw (c .refuse2 .ensures) (crowded-done (a .args .self) (a .args .t) (a .args .cs) (a .args .ds) (a .args .last) (a .pre .sound) (omega (arith, c .before .before .if1 .left)) (omega (arith, c .before .if2 .taken)))
 
 with-slots-requires : tie.Need-with-slots-requires
 with-slots-requires c κs = search needs
@@ -28,8 +34,8 @@ with-slots-requires c κs = search needs
 add-self : tie.Need-add-self
 add-self c = search needs
 
-cast-t18 : tie.Need-cast-t18
-cast-t18 c = search needs
+cast-t16 : tie.Need-cast-t16
+cast-t16 c = search needs
 
 returns-3 : tie.Need-returns-3
 returns-3 c =
@@ -40,4 +46,14 @@ returns-3 c =
 pub place-spec : {M : Type 1} → statement M
 place-spec =
     tie.close
-    (tie.spec add-k returns sub-if2 returns-2 with-slots-requires add-self cast-t18 returns-3)
+    (tie.spec
+    add-k
+    refuse-requires
+    returns
+    sub-if2
+    refuse-requires-2
+    returns-2
+    with-slots-requires
+    add-self
+    cast-t16
+    returns-3)
