@@ -1,6 +1,7 @@
 //! The second program of the command retimer: an automaton reader, a monitor
 //! that retimes actions, the desk program's lines, and random desk inputs.
 
+pub mod bench;
 pub mod compare;
 pub mod course;
 pub mod decide;

@@ -1,0 +1,4 @@
+// The desk program.
+fn main() {
+    marking::desk::run();
+}

@@ -1,0 +1,57 @@
+-- What marking a list of calls writes, from the model of the box.
+use mathlib.Core.Path.{_≡_}
+use mathlib.Core.Bool.{Bool, true, false}
+use mathlib.Core.List.{List, [], _∷_, _++_}
+use Prim.Native.Nat.{ℕ, suc, _+_, _/_, _%_, _≤_, _<_}
+use lib.ListN.{length, take}
+use Rattle.enforcement.specs.Automaton.{Bytes}
+use Rattle.enforcement.specs.History.{Call, Outcome, scheduled, held, dropped, played, nothing, lit, dark, refused}
+use Rattle.enforcement.specs.Model.{Compiled}
+use Rattle.enforcement.specs.Monitor.{lampLit, answer, replay}
+use Rattle.enforcement.specs.Monitor as model
+use Rattle.io.specs.Counts.{Counts}
+use Rattle.report.specs.Texts.{Wrote}
+use Rattle.report.specs.Lines.{outcomeText, callLine, tailLine}
+use Rattle.retimer.specs.declared.limits.Monitor.{Monitor}
+use Rattle.retimer.specs.Optimum.{modelOf}
+use Rattle.retimer.specs.View.{bytesOf, viewOf, Valid}
+use Rattle.retimer.specs.Replay.{callsOf}
+use Rattle.marking.specs.declared.block.Marked.{Marked}
+
+-- The outcome is "lit".
+abbrev pub isLitOutcome : Outcome → Bool
+isLitOutcome (scheduled n d) = false
+isLitOutcome held = false
+isLitOutcome dropped = false
+isLitOutcome (played c d) = false
+isLitOutcome nothing = false
+isLitOutcome lit = true
+isLitOutcome dark = false
+isLitOutcome (refused r) = false
+
+-- The line of the call number n: what it answers, with the held list's length, and the lamp after it.
+abbrev pub lineOf : Compiled → ℕ → model.Answered → List ℕ
+lineOf m n w = callLine n (outcomeText (length (w .monitor .pending)) (w .outcome)) (lampLit m (w .monitor))
+
+-- The lines of calls, where n calls came before.
+unfoldable pub linesOf : Compiled → model.Monitor → ℕ → List Call → List ℕ
+linesOf m b n [] = []
+linesOf m b n (k ∷ ks) = lineOf m (suc n) (answer m b k) ++ linesOf m (answer m b k .monitor) (suc n) ks
+
+-- The lines of a block of bytes: those of its whole calls, and one for bytes left over.
+abbrev pub blockText : Compiled → model.Monitor → ℕ → Bytes → List ℕ
+blockText m b n s = linesOf m b n (callsOf s) ++ tailLine (length s % 5)
+
+-- The text of the block is written at the front of the buffer; the box is the model's after the block's calls, of the same sheet.
+pub record MarkRight (b : Monitor) (s : Bytes) (n : ℕ) (before after : List ℕ) (r : Marked) : Type 0 where
+  pub wrote : Wrote before 0 (blockText (modelOf (bytesOf b)) (viewOf b) n s) after (r .size)
+  pub counts : Counts (r .size) after
+  pub calls-are : r .calls ≡ n + length s / 5
+  pub monitor-is : viewOf (r .monitor) ≡ replay (modelOf (bytesOf b)) (viewOf b) (callsOf s) .monitor
+  pub valid : Valid (r .monitor)
+  pub same-sheet : bytesOf (r .monitor) ≡ bytesOf b
+
+-- A turn of the desk program's loop: the box is one, and where more may come calls were made.
+pub record TurnRight (n : ℕ) (b : Monitor) (made : ℕ) (more : Bool) : Type 0 where
+  pub valid : Valid b
+  pub grows : more ≡ true → n < made

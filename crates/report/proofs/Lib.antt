@@ -1,0 +1,3 @@
+pub mod LineLaws
+pub mod Numerals
+pub mod Writing

@@ -1,0 +1,173 @@
+//! The sheets for which a search over actions left, location and two readings
+//! meets the most states, and the offers that cost most.
+
+use super::script::Script;
+use super::Input;
+use crate::generate::Draft;
+use crate::limits::MAX_PENDING;
+use crate::sheet::{RULE, UNBOUNDED};
+
+/// The action of which the pending list consists.
+pub const HELD: u8 = 0;
+/// The only action that leads to the accepting location.
+pub const EXIT: u8 = 1;
+/// An action that no transition has.
+pub const UNKNOWN: u8 = 15;
+
+/// The accepting location, which is also the initial one.
+const GOAL: u8 = 15;
+/// No bounds at all.
+const ANY: [u8; 2] = [0, UNBOUNDED];
+
+/// Resets of a transition.
+const NONE: u8 = 0;
+const FIRST: u8 = 1;
+const SECOND: u8 = 2;
+const BOTH: u8 = 3;
+
+fn rule(action: u8, target: u8, resets: u8, x: [u8; 2], y: [u8; 2]) -> [u8; RULE] {
+    [action, target, resets, x[0], x[1], y[0], y[1]]
+}
+
+fn draft(outgoing: Vec<Vec<[u8; RULE]>>) -> Draft {
+    Draft {
+        locations: 16,
+        clocks: 2,
+        actions: 16,
+        initial: GOAL,
+        accepting: 1 << GOAL,
+        outgoing,
+    }
+}
+
+/// A sheet with as many states as possible: in every location and for all
+/// readings the held action leads on, two steps lead from any location to any
+/// other but the goal, and every difference of the readings arises. The goal
+/// is entered from one location and at one pair of readings.
+pub fn many_states() -> Vec<u8> {
+    let mut outgoing: Vec<_> = (0..GOAL).map(spreading).collect();
+    outgoing[14].push(rule(EXIT, GOAL, NONE, [30, 30], [0, 0]));
+    outgoing.push(vec![
+        rule(HELD, 1, FIRST, ANY, [0, 9]),
+        rule(HELD, 6, FIRST, ANY, [10, 19]),
+        rule(HELD, 11, FIRST, ANY, [20, UNBOUNDED]),
+    ]);
+    draft(outgoing).bytes()
+}
+
+/// Four transitions that cover all readings. They lead to low and to high
+/// readings of either clock, the other at 0; each location is the target of
+/// one of each sort, so that all pairs of readings follow by waiting.
+fn spreading(location: u8) -> Vec<[u8; RULE]> {
+    let target = |sort: u8| (4 * location + sort) % GOAL;
+    let (low, high) = ([0, 15], [16, UNBOUNDED]);
+    vec![
+        rule(HELD, target(0), FIRST, high, low),
+        rule(HELD, target(1), FIRST, low, high),
+        rule(HELD, target(2), SECOND, high, high),
+        rule(HELD, target(3), SECOND, low, low),
+    ]
+}
+
+/// A sheet with a late correction: the way to the goal leads through all
+/// locations, each step waits for a reading of 29, and nothing else leads
+/// forward.
+pub fn late_correction() -> Vec<u8> {
+    let mut outgoing: Vec<_> = (0..GOAL).map(climbing).collect();
+    outgoing[14].push(rule(EXIT, GOAL, NONE, ANY, [29, 29]));
+    outgoing.push(vec![
+        rule(HELD, 0, BOTH, [0, 9], ANY),
+        rule(HELD, 0, BOTH, [10, 19], ANY),
+        rule(HELD, 0, BOTH, [20, UNBOUNDED], ANY),
+    ]);
+    draft(outgoing).bytes()
+}
+
+/// One transition forward at reading 29 of one clock, three others for the
+/// rest. The clocks change places from location to location.
+fn climbing(location: u8) -> Vec<[u8; RULE]> {
+    let next = (location + 1).min(GOAL - 1);
+    let back = location.saturating_sub(1);
+    let cut = 1 + location % 5;
+    // Target, resets, and the bounds of the other clock and of the one asked for.
+    let sorts = [
+        (location, FIRST, [cut + 1, UNBOUNDED], [0, 28]),
+        (back, SECOND, [0, cut], [0, 28]),
+        (location, SECOND, ANY, [30, UNBOUNDED]),
+        (next, FIRST, ANY, [29, 29]),
+    ];
+    let turned = |(target, resets, other, asked): (u8, u8, [u8; 2], [u8; 2])| {
+        if location.is_multiple_of(2) {
+            rule(HELD, target, resets, other, asked)
+        } else {
+            rule(HELD, target, BOTH - resets, asked, other)
+        }
+    };
+    sorts.map(turned).to_vec()
+}
+
+/// Fills the pending list from the last scheduled date on; gives the date.
+fn fill(script: &mut Script) -> u32 {
+    let date = script.monitor().reached().date;
+    for _ in 0..MAX_PENDING {
+        script.offer(HELD, date);
+    }
+    date
+}
+
+/// Full pending lists that are scheduled, with the collections of the batch
+/// before.
+fn batches(sheet: &[u8], calls: usize) -> Vec<Input> {
+    let mut script = Script::new(sheet);
+    for _ in 0..calls.div_ceil(2 * (MAX_PENDING + 1)) {
+        let date = fill(&mut script);
+        for _ in 0..=MAX_PENDING {
+            script.collect(date);
+        }
+        script.offer(EXIT, date);
+    }
+    vec![script.finish()]
+}
+
+/// Batches of the sheet with the most states.
+pub fn batches_many(calls: usize) -> Vec<Input> {
+    batches(&many_states(), calls)
+}
+
+/// Batches with a late correction.
+pub fn batches_late(calls: usize) -> Vec<Input> {
+    batches(&late_correction(), calls)
+}
+
+/// A 17th action for which nothing is left but to be held.
+pub fn held_too_many(calls: usize) -> Vec<Input> {
+    let mut script = Script::new(&many_states());
+    let date = fill(&mut script);
+    vec![script.repeating(HELD, date, calls)]
+}
+
+/// A 17th action that is dropped.
+pub fn dropped(calls: usize) -> Vec<Input> {
+    let mut script = Script::new(&many_states());
+    let date = fill(&mut script);
+    vec![script.repeating(UNKNOWN, date, calls)]
+}
+
+/// A correction of 17 actions for which the schedule has no room.
+fn no_room(sheet: &[u8], calls: usize) -> Vec<Input> {
+    let mut script = Script::new(sheet);
+    let date = fill(&mut script);
+    script.offer(EXIT, date);
+    let date = fill(&mut script);
+    vec![script.repeating(EXIT, date, calls)]
+}
+
+/// No room, on the sheet with the most states.
+pub fn no_room_many(calls: usize) -> Vec<Input> {
+    no_room(&many_states(), calls)
+}
+
+/// No room for a late correction.
+pub fn no_room_late(calls: usize) -> Vec<Input> {
+    no_room(&late_correction(), calls)
+}
