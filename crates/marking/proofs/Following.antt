@@ -1,16 +1,17 @@
 -- The loop that marks a block of calls follows the model.
-use mathlib.Core.Path.{_≡_, refl, sym, ap, _∙_, subst}
+-- Assumes nothing.
+use mathlib.Core.Path.{_≡_, refl, sym, ap, _∙_}
 use mathlib.Core.Bool.{Bool, true, false, cond}
 use mathlib.Core.List.{List, [], _∷_, _++_, append-assoc, append-nil}
-use Prim.Native.Nat.{ℕ, zero, suc, _+_, _-_, _*_, _/_, _%_, _≤_, _<_}
+use Prim.Native.Nat.{ℕ, suc, _+_, _-_, _*_, _/_, _%_, _≤_, _<_}
 use native.Mathlib.Omega.{arith}
 use native.Mathlib.Nat.{div-add-mod', mod-lt}
 use native.Mathlib.Numerals.{add-one}
 use lib.Dec.{lit<}
-use lib.ListN.{length, take, length-append}
+use lib.ListN.{length, length-append}
 use lib.Seq.{length-take-le}
 use Rattle.enforcement.specs.Automaton.{Bytes}
-use Rattle.enforcement.specs.History.{Call, lamp, Outcome, lit, dark}
+use Rattle.enforcement.specs.History.{Call, lamp, lit, dark}
 use Rattle.enforcement.specs.Model.{Compiled}
 use Rattle.enforcement.specs.Monitor.{lampLit, answer, replay}
 use Rattle.enforcement.specs.Monitor as model

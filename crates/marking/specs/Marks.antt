@@ -2,8 +2,8 @@
 use mathlib.Core.Path.{_≡_}
 use mathlib.Core.Bool.{Bool, true, false}
 use mathlib.Core.List.{List, [], _∷_, _++_}
-use Prim.Native.Nat.{ℕ, suc, _+_, _/_, _%_, _≤_, _<_}
-use lib.ListN.{length, take}
+use Prim.Native.Nat.{ℕ, suc, _+_, _/_, _%_, _<_}
+use lib.ListN.{length}
 use Rattle.enforcement.specs.Automaton.{Bytes}
 use Rattle.enforcement.specs.History.{Call, Outcome, scheduled, held, dropped, played, nothing, lit, dark, refused}
 use Rattle.enforcement.specs.Model.{Compiled}

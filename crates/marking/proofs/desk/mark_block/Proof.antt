@@ -1,55 +1,41 @@
+-- `desk::mark_block` meets its contract: a full block has calls.
+-- Assumes nothing.
 use lib.ListN.{take}
-use Rattle.marking.proofs.Turns.{more-made, not-both}
 use borrow.Author.Needs.{needs}
+use Rattle.marking.proofs.Turns.{more-made, not-both}
 use Rattle.marking.proofs.desk.mark_block.Statement.{statement}
 use Rattle.marking.proofs.desk.mark_block.Tie as tie
-use Rattle.marking.proofs.desk.mark_block.Reads as reads
-use Rattle.marking.proofs.desk.mark_block.Lts as lts
-use Rattle.io.proofs.read_full.Reads as read-full-reads
-use Rattle.io.proofs.write_all.Reads as write-all-reads
-use Rattle.marking.proofs.block.mark.Reads as mark-reads
 
--- src/desk.rt:71:44
 slice-aggregate-read-full : tie.Need-slice-aggregate-read-full
 slice-aggregate-read-full c = search needs
 
--- src/desk.rt:71:9
 read-full-requires : tie.Need-read-full-requires
 read-full-requires c κs = search needs
 
--- src/desk.rt:72:33
 array-share-prefix-calls : tie.Need-array-share-prefix-calls
 array-share-prefix-calls c = search needs
 
--- src/desk.rt:72:33
 slice-aggregate-mark : tie.Need-slice-aggregate-mark
 slice-aggregate-mark c = search needs
 
--- src/desk.rt:72:52
 slice-aggregate-mark-2 : tie.Need-slice-aggregate-mark-2
 slice-aggregate-mark-2 c = search needs
 
--- src/desk.rt:72:9
 mark-requires : tie.Need-mark-requires
 mark-requires c κs = search needs
 
--- src/desk.rt:75:51
 array-share-prefix-out : tie.Need-array-share-prefix-out
 array-share-prefix-out c = search needs
 
--- src/desk.rt:75:51
 slice-aggregate-write-all : tie.Need-slice-aggregate-write-all
 slice-aggregate-write-all c = search needs
 
--- src/desk.rt:75:9
 write-all-requires : tie.Need-write-all-requires
 write-all-requires c κs = search needs
 
--- src/desk.rt:65:1
 returns : tie.Need-returns
 returns c = record { valid = c .before .before .before .before .before .mark .ensures .valid; grows = more-made (take (c .before .before .before .before .before .before .before .before .before .read-full .result) (c .before .before .before .before .before .before .before .before .before .read-full .last .1 .0)) (c .before .before .before .before .before .before .before .before .before .before .before .args .n) (c .before .before .before .before .before .mark .result .calls) (c .before .before .before .before .before .before .before .before .before .read-full .result) (c .before .before .before .before .before .mark .ensures .calls-are) (c .before .before .before .before .before .before .before .before .before .read-full .ensures .1) }
 
--- src/desk.rt:65:1
 returns-2 : tie.Need-returns-2
 returns-2 c = record { valid = c .before .before .before .before .before .mark .ensures .valid; grows = λ e. not-both e (c .if1 .left) }
 

@@ -1,48 +1,37 @@
-use Rattle.retimer.specs.Reasons.{reasonOf}
+-- `desk::print_refusal` meets its contract: the line is within its buffer.
+-- Assumes nothing.
 use native.Mathlib.Omega.{arith}
+use borrow.Author.Needs.{needs}
+use Rattle.retimer.specs.Reasons.{reasonOf}
 use Rattle.report.proofs.Writing.{counted}
 use Rattle.report.proofs.LineLaws.{refused-few}
-use borrow.Author.Needs.{needs}
 use Rattle.marking.proofs.desk.print_refusal.Statement.{statement}
 use Rattle.marking.proofs.desk.print_refusal.Tie as tie
-use Rattle.marking.proofs.desk.print_refusal.Reads as reads
-use Rattle.marking.proofs.desk.print_refusal.Lts as lts
-use Rattle.io.proofs.write_all.Reads as write-all-reads
-use Rattle.report.proofs.line.refused_line.Reads as refused-line-reads
 
--- src/desk.rt:49:26
 enum-known-c : tie.Need-enum-known-c
 enum-known-c c = search needs
 
--- src/desk.rt:50:9
 enum-told : tie.Need-enum-told
 enum-told c = search needs
 
--- src/desk.rt:50:9
 returns : tie.Need-returns
 returns c = search needs
 
--- src/desk.rt:53:34
 slice-aggregate-refused-line : tie.Need-slice-aggregate-refused-line
 slice-aggregate-refused-line c = search needs
 
--- src/desk.rt:53:9
 refused-line-requires : tie.Need-refused-line-requires
 refused-line-requires c κs = search needs
 
--- src/desk.rt:54:34
 array-share-prefix-out : tie.Need-array-share-prefix-out
 array-share-prefix-out c = counted (c .before .refused-line .ensures) (c .before .refused-line .kept .0) (omega (arith, refused-few (reasonOf (c .before .before .before .before .c .given .0 .0)))) .0
 
--- src/desk.rt:54:34
 slice-aggregate-write-all : tie.Need-slice-aggregate-write-all
 slice-aggregate-write-all c = counted (c .before .before .refused-line .ensures) (c .before .before .refused-line .kept .0) (omega (arith, refused-few (reasonOf (c .before .before .before .before .before .c .given .0 .0)))) .1
 
--- src/desk.rt:54:5
 write-all-requires : tie.Need-write-all-requires
 write-all-requires c κs = search needs
 
--- src/desk.rt:48:1
 returns-2 : tie.Need-returns-2
 returns-2 c = search needs
 

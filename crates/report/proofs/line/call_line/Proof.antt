@@ -1,42 +1,31 @@
+-- `line::call_line` meets its contract: number, answer and lamp follow each other.
+-- Assumes nothing.
 use native.Mathlib.Omega.{arith}
+use borrow.Author.Needs.{needs}
 use Rattle.report.proofs.Numerals.{numeral-few}
 use Rattle.report.proofs.Writing.{next}
 use Rattle.report.proofs.LineLaws.{answer-few}
-use borrow.Author.Needs.{needs}
 use Rattle.report.proofs.line.call_line.Statement.{statement}
 use Rattle.report.proofs.line.call_line.Tie as tie
-use Rattle.report.proofs.line.call_line.Reads as reads
-use Rattle.report.proofs.line.call_line.Lts as lts
-use Rattle.report.proofs.line.put_answer.Reads as put-answer-reads
-use Rattle.report.proofs.line.put_lamp.Reads as put-lamp-reads
-use Rattle.report.proofs.text.put.Reads as put-reads
-use Rattle.report.proofs.text.put_number.Reads as put-number-reads
 
--- src/line.rt:113:9
 put-number-requires : tie.Need-put-number-requires
 put-number-requires c κs = search needs
 
--- src/line.rt:114:34
 slice-aggregate-put : tie.Need-slice-aggregate-put
 slice-aggregate-put c = search needs
 
--- src/line.rt:114:9
 put-requires : tie.Need-put-requires
 put-requires c κs = omega (arith, numeral-few (c .before .before .before .before .before .before .before .args .n))
 
--- src/line.rt:115:9
 put-answer-requires : tie.Need-put-answer-requires
 put-answer-requires c κs = omega (arith, numeral-few (c .before .before .before .before .before .before .before .before .before .before .before .args .n))
 
--- src/line.rt:116:5
 put-lamp-requires : tie.Need-put-lamp-requires
 put-lamp-requires c κs = omega (arith, numeral-few (c .before .before .before .before .before .before .before .before .before .before .before .before .before .before .before .args .n), answer-few (c .before .before .before .before .before .before .before .before .before .before .before .before .before .before .before .args .a))
 
--- src/line.rt:109:1
 same-length : tie.Need-same-length
 same-length c = search needs
 
--- src/line.rt:109:1
 returns : tie.Need-returns
 returns c =
     let few = numeral-few (c .before .before .before .before .before .before .before .before .before .before .before .before .before .before .before .before .before .before .args .n) in

@@ -1,173 +1,129 @@
+-- `line::put_answer` meets its contract: each arm is an answer.
+-- Assumes nothing.
 use mathlib.Core.Path.{ap, sym}
+use borrow.Author.Needs.{needs}
 use Rattle.report.specs.Lines.{answerText}
 use Rattle.report.proofs.Writing.{as-text}
-use borrow.Author.Needs.{needs}
 use Rattle.report.proofs.line.put_answer.Statement.{statement}
 use Rattle.report.proofs.line.put_answer.Tie as tie
-use Rattle.report.proofs.line.put_answer.Reads as reads
-use Rattle.report.proofs.line.put_answer.Lts as lts
-use Rattle.report.proofs.line.put_dated.Reads as put-dated-reads
-use Rattle.report.proofs.line.put_refused.Reads as put-refused-reads
-use Rattle.report.proofs.text.put.Reads as put-reads
-use Rattle.report.proofs.text.put_figure.Reads as put-figure-reads
 
--- src/line.rt:77:29
 enum-known-a : tie.Need-enum-known-a
 enum-known-a c = search needs
 
--- src/line.rt:77:65
 slice-aggregate-put-dated : tie.Need-slice-aggregate-put-dated
 slice-aggregate-put-dated c = search needs
 
--- src/line.rt:77:46
 put-dated-requires : tie.Need-put-dated-requires
 put-dated-requires c κs = search needs
 
--- src/line.rt:78:22
 enum-known-a-2 : tie.Need-enum-known-a-2
 enum-known-a-2 c = search needs
 
--- src/line.rt:78:52
 slice-aggregate-put-figure : tie.Need-slice-aggregate-put-figure
 slice-aggregate-put-figure c = search needs
 
--- src/line.rt:78:62
 cast-put-figure : tie.Need-cast-put-figure
 cast-put-figure c = search needs
 
--- src/line.rt:78:32
 put-figure-requires : tie.Need-put-figure-requires
 put-figure-requires c κs = search needs
 
--- src/line.rt:79:32
 enum-told : tie.Need-enum-told
 enum-told c = search needs
 
--- src/line.rt:79:41
 slice-aggregate-put : tie.Need-slice-aggregate-put
 slice-aggregate-put c = search needs
 
--- src/line.rt:79:28
 put-requires : tie.Need-put-requires
 put-requires c κs = search needs
 
--- src/line.rt:80:26
 enum-known-a-3 : tie.Need-enum-known-a-3
 enum-known-a-3 c = search needs
 
--- src/line.rt:80:63
 slice-aggregate-put-dated-2 : tie.Need-slice-aggregate-put-dated-2
 slice-aggregate-put-dated-2 c = search needs
 
--- src/line.rt:80:44
 put-dated-requires-2 : tie.Need-put-dated-requires-2
 put-dated-requires-2 c κs = search needs
 
--- src/line.rt:81:32
 enum-told-2 : tie.Need-enum-told-2
 enum-told-2 c = search needs
 
--- src/line.rt:81:41
 slice-aggregate-put-2 : tie.Need-slice-aggregate-put-2
 slice-aggregate-put-2 c = search needs
 
--- src/line.rt:81:28
 put-requires-2 : tie.Need-put-requires-2
 put-requires-2 c κs = search needs
 
--- src/line.rt:82:28
 enum-told-3 : tie.Need-enum-told-3
 enum-told-3 c = search needs
 
--- src/line.rt:82:37
 slice-aggregate-put-3 : tie.Need-slice-aggregate-put-3
 slice-aggregate-put-3 c = search needs
 
--- src/line.rt:82:24
 put-requires-3 : tie.Need-put-requires-3
 put-requires-3 c κs = search needs
 
--- src/line.rt:83:29
 enum-told-4 : tie.Need-enum-told-4
 enum-told-4 c = search needs
 
--- src/line.rt:83:38
 slice-aggregate-put-4 : tie.Need-slice-aggregate-put-4
 slice-aggregate-put-4 c = search needs
 
--- src/line.rt:83:25
 put-requires-4 : tie.Need-put-requires-4
 put-requires-4 c κs = search needs
 
--- src/line.rt:84:25
 enum-known-a-4 : tie.Need-enum-known-a-4
 enum-known-a-4 c = search needs
 
--- src/line.rt:84:31
 put-refused-requires : tie.Need-put-refused-requires
 put-refused-requires c κs = search needs
 
--- src/line.rt:72:1
 same-length : tie.Need-same-length
 same-length c = search needs
 
--- src/line.rt:72:1
 returns : tie.Need-returns
 returns c = as-text (c .before .before .put-dated .ensures) (ap answerText (sym (c .before .before .before .before .before .before .a .given .1)))
 
--- src/line.rt:72:1
 same-length-2 : tie.Need-same-length-2
 same-length-2 c = search needs
 
--- src/line.rt:72:1
 returns-2 : tie.Need-returns-2
 returns-2 c = as-text (c .before .before .put-figure .ensures) (ap answerText (sym (c .before .before .before .before .before .before .a2 .given .1)))
 
--- src/line.rt:72:1
 same-length-3 : tie.Need-same-length-3
 same-length-3 c = search needs
 
--- src/line.rt:72:1
 returns-3 : tie.Need-returns-3
 returns-3 c = as-text (c .before .before .put .ensures) (ap answerText (sym (c .before .before .before .before .before .enum-told .given .1)))
 
--- src/line.rt:72:1
 same-length-4 : tie.Need-same-length-4
 same-length-4 c = search needs
 
--- src/line.rt:72:1
 returns-4 : tie.Need-returns-4
 returns-4 c = as-text (c .before .before .put-dated2 .ensures) (ap answerText (sym (c .before .before .before .before .before .before .a3 .given .1)))
 
--- src/line.rt:72:1
 same-length-5 : tie.Need-same-length-5
 same-length-5 c = search needs
 
--- src/line.rt:72:1
 returns-5 : tie.Need-returns-5
 returns-5 c = as-text (c .before .before .put2 .ensures) (ap answerText (sym (c .before .before .before .before .before .enum-told2 .given .1)))
 
--- src/line.rt:72:1
 same-length-6 : tie.Need-same-length-6
 same-length-6 c = search needs
 
--- src/line.rt:72:1
 returns-6 : tie.Need-returns-6
 returns-6 c = as-text (c .before .before .put3 .ensures) (ap answerText (sym (c .before .before .before .before .before .enum-told3 .given .1)))
 
--- src/line.rt:72:1
 same-length-7 : tie.Need-same-length-7
 same-length-7 c = search needs
 
--- src/line.rt:72:1
 returns-7 : tie.Need-returns-7
 returns-7 c = as-text (c .before .before .put4 .ensures) (ap answerText (sym (c .before .before .before .before .before .enum-told4 .given .1)))
 
--- src/line.rt:72:1
 same-length-8 : tie.Need-same-length-8
 same-length-8 c = search needs
 
--- src/line.rt:72:1
 returns-8 : tie.Need-returns-8
 returns-8 c = as-text (c .before .before .put-refused .ensures) (ap answerText (sym (c .before .before .before .before .before .a4 .given .1)))
 

@@ -1,32 +1,26 @@
+-- `line::put_dated` meets its contract: the date follows the number.
+-- Assumes nothing.
 use native.Mathlib.Omega.{arith}
 use lib.ListN.{length-append}
+use borrow.Author.Needs.{needs}
 use Rattle.report.specs.Texts.{numeral}
 use Rattle.report.proofs.Numerals.{numeral-few}
 use Rattle.report.proofs.Writing.{next}
-use borrow.Author.Needs.{needs}
 use Rattle.report.proofs.line.put_dated.Statement.{statement}
 use Rattle.report.proofs.line.put_dated.Tie as tie
-use Rattle.report.proofs.line.put_dated.Reads as reads
-use Rattle.report.proofs.line.put_dated.Lts as lts
-use Rattle.report.proofs.text.put_figure.Reads as put-figure-reads
 
--- src/line.rt:67:9
 put-figure-requires : tie.Need-put-figure-requires
 put-figure-requires c κs = search needs
 
--- src/line.rt:68:29
 slice-aggregate-put-figure : tie.Need-slice-aggregate-put-figure
 slice-aggregate-put-figure c = search needs
 
--- src/line.rt:68:5
 put-figure-requires-2 : tie.Need-put-figure-requires-2
 put-figure-requires-2 c κs = omega (arith, numeral-few (c .before .before .before .before .before .before .before .before .args .n), length-append (c .before .before .before .before .before .before .before .before .args .word .now) (numeral (c .before .before .before .before .before .before .before .before .args .n)))
 
--- src/line.rt:63:1
 same-length : tie.Need-same-length
 same-length c = search needs
 
--- src/line.rt:63:1
 returns : tie.Need-returns
 returns c = next (omega (arith, numeral-few (c .before .before .before .before .before .before .before .before .before .before .before .args .n), length-append (c .before .before .before .before .before .before .before .before .before .before .before .args .word .now) (numeral (c .before .before .before .before .before .before .before .before .before .before .before .args .n)))) (c .before .before .before .before .before .before .before .put-figure .ensures) (c .before .before .put-figure2 .ensures)
 

@@ -1,54 +1,42 @@
+-- `line::put_header` meets its contract: the figures follow each other.
+-- Assumes nothing.
 use native.Mathlib.Omega.{arith}
+use borrow.Author.Needs.{needs}
 use Rattle.report.proofs.Numerals.{numeral-few}
 use Rattle.report.proofs.Writing.{next}
-use borrow.Author.Needs.{needs}
 use Rattle.report.proofs.line.put_header.Statement.{statement}
 use Rattle.report.proofs.line.put_header.Tie as tie
-use Rattle.report.proofs.line.put_header.Reads as reads
-use Rattle.report.proofs.line.put_header.Lts as lts
-use Rattle.report.proofs.text.put_figure.Reads as put-figure-reads
 
--- src/line.rt:52:41
 slice-aggregate-put-figure : tie.Need-slice-aggregate-put-figure
 slice-aggregate-put-figure c = search needs
 
--- src/line.rt:52:52
 cast-put-figure : tie.Need-cast-put-figure
 cast-put-figure c = search needs
 
--- src/line.rt:52:9
 put-figure-requires : tie.Need-put-figure-requires
 put-figure-requires c κs = search needs
 
--- src/line.rt:53:45
 slice-aggregate-put-figure-2 : tie.Need-slice-aggregate-put-figure-2
 slice-aggregate-put-figure-2 c = search needs
 
--- src/line.rt:53:51
 cast-put-figure-2 : tie.Need-cast-put-figure-2
 cast-put-figure-2 c = search needs
 
--- src/line.rt:53:9
 put-figure-requires-2 : tie.Need-put-figure-requires-2
 put-figure-requires-2 c κs = omega (arith, numeral-few (c .before .before .before .before .before .before .before .before .before .before .args .k .locations))
 
--- src/line.rt:54:29
 slice-aggregate-put-figure-3 : tie.Need-slice-aggregate-put-figure-3
 slice-aggregate-put-figure-3 c = search needs
 
--- src/line.rt:54:35
 cast-put-figure-3 : tie.Need-cast-put-figure-3
 cast-put-figure-3 c = search needs
 
--- src/line.rt:54:5
 put-figure-requires-3 : tie.Need-put-figure-requires-3
 put-figure-requires-3 c κs = omega (arith, numeral-few (c .before .before .before .before .before .before .before .before .before .before .before .before .before .before .before .before .args .k .locations), numeral-few (c .before .before .before .before .before .before .before .before .before .before .before .before .before .before .before .before .args .k .clocks))
 
--- src/line.rt:48:1
 same-length : tie.Need-same-length
 same-length c = search needs
 
--- src/line.rt:48:1
 returns : tie.Need-returns
 returns c =
     let k = c .before .before .before .before .before .before .before .before .before .before .before .before .before .before .before .before .before .before .before .args .k in

@@ -1,42 +1,33 @@
+-- `line::put_lamp` meets its contract: each way is a state of the lamp.
+-- Assumes nothing.
 use mathlib.Core.Path.{ap, sym}
+use borrow.Author.Needs.{needs}
 use Rattle.report.specs.Lines.{lampText}
 use Rattle.report.proofs.Writing.{as-text}
-use borrow.Author.Needs.{needs}
 use Rattle.report.proofs.line.put_lamp.Statement.{statement}
 use Rattle.report.proofs.line.put_lamp.Tie as tie
-use Rattle.report.proofs.line.put_lamp.Reads as reads
-use Rattle.report.proofs.line.put_lamp.Lts as lts
-use Rattle.report.proofs.text.put.Reads as put-reads
 
--- src/line.rt:103:29
 slice-aggregate-put : tie.Need-slice-aggregate-put
 slice-aggregate-put c = search needs
 
--- src/line.rt:103:9
 put-requires : tie.Need-put-requires
 put-requires c κs = search needs
 
--- src/line.rt:103:9
 same-length : tie.Need-same-length
 same-length c = search needs
 
--- src/line.rt:103:9
 returns : tie.Need-returns
 returns c = as-text (c .before .before .put .ensures) (ap lampText (sym (c .before .before .before .before .before .if1 .taken)))
 
--- src/line.rt:105:18
 slice-aggregate-put-2 : tie.Need-slice-aggregate-put-2
 slice-aggregate-put-2 c = search needs
 
--- src/line.rt:105:5
 put-requires-2 : tie.Need-put-requires-2
 put-requires-2 c κs = search needs
 
--- src/line.rt:98:1
 same-length-2 : tie.Need-same-length-2
 same-length-2 c = search needs
 
--- src/line.rt:98:1
 returns-2 : tie.Need-returns-2
 returns-2 c = as-text (c .before .before .put2 .ensures) (ap lampText (sym (c .before .before .before .before .before .if1 .left)))
 

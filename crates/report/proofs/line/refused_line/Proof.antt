@@ -1,40 +1,31 @@
-use Rattle.retimer.specs.Reasons.{reasonOf}
+-- `line::refused_line` meets its contract: the reason follows the words.
+-- Assumes nothing.
 use native.Mathlib.Omega.{arith}
+use borrow.Author.Needs.{needs}
+use Rattle.retimer.specs.Reasons.{reasonOf}
 use Rattle.report.proofs.Writing.{next}
 use Rattle.report.proofs.LineLaws.{reason-three}
-use borrow.Author.Needs.{needs}
 use Rattle.report.proofs.line.refused_line.Statement.{statement}
 use Rattle.report.proofs.line.refused_line.Tie as tie
-use Rattle.report.proofs.line.refused_line.Reads as reads
-use Rattle.report.proofs.line.refused_line.Lts as lts
-use Rattle.report.proofs.line.put_reason.Reads as put-reason-reads
-use Rattle.report.proofs.text.put.Reads as put-reads
 
--- src/line.rt:57:29
 slice-aggregate-put : tie.Need-slice-aggregate-put
 slice-aggregate-put c = search needs
 
--- src/line.rt:57:9
 put-requires : tie.Need-put-requires
 put-requires c κs = search needs
 
--- src/line.rt:58:9
 put-reason-requires : tie.Need-put-reason-requires
 put-reason-requires c κs = search needs
 
--- src/line.rt:59:22
 slice-aggregate-put-2 : tie.Need-slice-aggregate-put-2
 slice-aggregate-put-2 c = search needs
 
--- src/line.rt:59:5
 put-requires-2 : tie.Need-put-requires-2
 put-requires-2 c κs = omega (arith, reason-three (reasonOf (c .before .before .before .before .before .before .before .before .before .before .before .before .args .r)))
 
--- src/line.rt:53:1
 same-length : tie.Need-same-length
 same-length c = search needs
 
--- src/line.rt:53:1
 returns : tie.Need-returns
 returns c = next (omega (arith, reason-three (reasonOf (c .before .before .before .before .before .before .before .before .before .before .before .before .before .before .before .args .r)))) (next (omega arith) (c .before .before .before .before .before .before .before .before .before .before .before .put .ensures) (c .before .before .before .before .before .before .before .put-reason .ensures)) (c .before .before .put2 .ensures)
 

@@ -1,54 +1,41 @@
-use Rattle.retimer.specs.Checked.{figuresOf}
+-- `line::sheet_line` meets its contract: the figures follow the header.
+-- Assumes nothing.
 use native.Mathlib.Omega.{arith}
+use borrow.Author.Needs.{needs}
+use Rattle.retimer.specs.Checked.{figuresOf}
 use Rattle.report.proofs.Numerals.{numeral-few}
 use Rattle.report.proofs.LineLaws.{header-few}
 use Rattle.report.proofs.Writing.{next}
-use borrow.Author.Needs.{needs}
 use Rattle.report.proofs.line.sheet_line.Statement.{statement}
 use Rattle.report.proofs.line.sheet_line.Tie as tie
-use Rattle.report.proofs.line.sheet_line.Reads as reads
-use Rattle.report.proofs.line.sheet_line.Lts as lts
-use Rattle.report.proofs.line.put_header.Reads as put-header-reads
-use Rattle.report.proofs.text.put.Reads as put-reads
-use Rattle.report.proofs.text.put_figure.Reads as put-figure-reads
 
--- src/line.rt:62:9
 put-header-requires : tie.Need-put-header-requires
 put-header-requires c κs = search needs
 
--- src/line.rt:63:47
 slice-aggregate-put-figure : tie.Need-slice-aggregate-put-figure
 slice-aggregate-put-figure c = search needs
 
--- src/line.rt:63:9
 put-figure-requires : tie.Need-put-figure-requires
 put-figure-requires c κs = omega (arith, header-few (figuresOf (c .before .before .before .before .before .before .before .args .k)))
 
--- src/line.rt:64:50
 slice-aggregate-put-figure-2 : tie.Need-slice-aggregate-put-figure-2
 slice-aggregate-put-figure-2 c = search needs
 
--- src/line.rt:64:56
 cast-put-figure : tie.Need-cast-put-figure
 cast-put-figure c = search needs
 
--- src/line.rt:64:9
 put-figure-requires-2 : tie.Need-put-figure-requires-2
 put-figure-requires-2 c κs = omega (arith, header-few (figuresOf (c .before .before .before .before .before .before .before .before .before .before .before .before .before .args .k)), numeral-few (c .before .before .before .before .before .before .before .before .before .before .before .before .before .args .k .transitions))
 
--- src/line.rt:65:25
 slice-aggregate-put : tie.Need-slice-aggregate-put
 slice-aggregate-put c = search needs
 
--- src/line.rt:65:5
 put-requires : tie.Need-put-requires
 put-requires c κs = omega (arith, header-few (figuresOf (c .before .before .before .before .before .before .before .before .before .before .before .before .before .before .before .before .before .before .args .k)), numeral-few (c .before .before .before .before .before .before .before .before .before .before .before .before .before .before .before .before .before .before .args .k .transitions), numeral-few (c .before .before .before .before .before .before .before .before .before .before .before .before .before .before .before .before .before .before .args .k .accepting))
 
--- src/line.rt:58:1
 same-length : tie.Need-same-length
 same-length c = search needs
 
--- src/line.rt:58:1
 returns : tie.Need-returns
 returns c =
     let k = c .before .before .before .before .before .before .before .before .before .before .before .before .before .before .before .before .before .before .before .before .before .args .k in

@@ -1,42 +1,33 @@
+-- `line::tail_line` meets its contract: a line where bytes are left over, and else nothing.
+-- Assumes nothing.
 use mathlib.Core.Path.{ap, sym}
 use native.Mathlib.Omega.{arith}
+use borrow.Author.Needs.{needs}
 use Rattle.report.specs.Lines.{tailLine}
 use Rattle.report.proofs.LineLaws.{tail-some}
 use Rattle.report.proofs.Numerals.{numeral-few}
 use Rattle.report.proofs.Writing.{next, as-text, writes-none}
-use borrow.Author.Needs.{needs}
 use Rattle.report.proofs.line.tail_line.Statement.{statement}
 use Rattle.report.proofs.line.tail_line.Tie as tie
-use Rattle.report.proofs.line.tail_line.Reads as reads
-use Rattle.report.proofs.line.tail_line.Lts as lts
-use Rattle.report.proofs.text.put.Reads as put-reads
-use Rattle.report.proofs.text.put_figure.Reads as put-figure-reads
 
--- src/line.rt:143:9
 returns : tie.Need-returns
 returns c = as-text (writes-none (c .before .before .args .out .now) (c .before .before .args .at)) (ap tailLine (sym (c .if1 .taken)))
 
--- src/line.rt:145:38
 slice-aggregate-put-figure : tie.Need-slice-aggregate-put-figure
 slice-aggregate-put-figure c = search needs
 
--- src/line.rt:145:9
 put-figure-requires : tie.Need-put-figure-requires
 put-figure-requires c κs = search needs
 
--- src/line.rt:146:22
 slice-aggregate-put : tie.Need-slice-aggregate-put
 slice-aggregate-put c = search needs
 
--- src/line.rt:146:5
 put-requires : tie.Need-put-requires
 put-requires c κs = omega (arith, numeral-few (c .before .before .before .before .before .before .before .before .before .args .n))
 
--- src/line.rt:138:1
 same-length : tie.Need-same-length
 same-length c = search needs
 
--- src/line.rt:138:1
 returns-2 : tie.Need-returns-2
 returns-2 c = as-text (next (omega (arith, numeral-few (c .before .before .before .before .before .before .before .before .before .before .before .before .args .n))) (c .before .before .before .before .before .before .before .put-figure .ensures) (c .before .before .put .ensures)) (sym (tail-some (c .before .before .before .before .before .before .before .before .before .before .before .before .args .n) (c .before .before .before .before .before .before .before .before .before .before .if1 .left)))
 

@@ -1,4 +1,6 @@
-use mathlib.Core.Path.{_≡_, refl, _∙_}
+-- `text::put` meets its contract: the loop has copied the first i bytes.
+-- Assumes nothing.
+use mathlib.Core.Path.{_≡_, refl}
 use Prim.Native.Nat.{_≤_, _-_}
 use native.Mathlib.Omega.{arith}
 use lib.ListN.{length, length-set}
@@ -6,8 +8,6 @@ use lib.Seq.{paste}
 use Rattle.report.proofs.Writing.{copies-none, copies-more, copies-all}
 use Rattle.report.proofs.text.put.Statement.{statement}
 use Rattle.report.proofs.text.put.Tie as tie
-use Rattle.report.proofs.text.put.Reads as reads
-use Rattle.report.proofs.text.put.Lts as lts
 
 abbrev Inv-loop : tie.InvT-loop
 Inv-loop out₀ at text i₀ out i = (i ≤ length text) × ((out ≡ paste out₀ at text i) × (length out ≡ length out₀))
@@ -15,46 +15,36 @@ Inv-loop out₀ at text i₀ out i = (i ≤ length text) × ((out ≡ paste out�
 abbrev μ-loop : tie.MeasureT-loop
 μ-loop out₀ at text i₀ out i = length text - i
 
--- src/text.rt:16:5
 loop-holds : tie.Need-loop-holds Inv-loop μ-loop
 loop-holds c = (omega arith, (copies-none (c .args .out .now) (c .args .at) (c .args .text .now), refl))
 
--- src/text.rt:17:23
 shared-slice-read-out : tie.Need-shared-slice-read-out Inv-loop μ-loop
 shared-slice-read-out c = omega arith
 
--- src/text.rt:17:13
 add-out : tie.Need-add-out Inv-loop μ-loop
 add-out c = omega arith
 
--- src/text.rt:17:9
 slice-write-out : tie.Need-slice-write-out Inv-loop μ-loop
 slice-write-out c = omega arith
 
--- src/text.rt:18:9
 add-i : tie.Need-add-i Inv-loop μ-loop
 add-i c = omega arith
 
--- src/text.rt:16:5
 loop-less : tie.Need-loop-less Inv-loop μ-loop
 loop-less c = omega arith
 
--- src/text.rt:16:5
 loop-again : tie.Need-loop-again Inv-loop μ-loop
 loop-again c =
     let e = c .before .before .before .args in
     let l = c .before .before .loop in
     (omega arith, (copies-more (e .out .now) (e .at) (e .text .now) (l .out) (l .i) (omega arith) (omega arith) (l .inv .1 .0), simp length-set (l .inv .1 .1)))
 
--- src/text.rt:20:5
 add-result : tie.Need-add-result Inv-loop μ-loop
 add-result c = omega arith
 
--- src/text.rt:11:1
 same-length : tie.Need-same-length Inv-loop μ-loop
 same-length c = omega arith
 
--- src/text.rt:11:1
 returns : tie.Need-returns Inv-loop μ-loop
 returns c =
     let e = c .before .before .args in

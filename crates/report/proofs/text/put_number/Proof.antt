@@ -1,36 +1,28 @@
+-- `text::put_number` meets its contract: `io::decimal`'s digits are the numeral's.
+-- Assumes nothing.
 use mathlib.Core.Path.{sym, _∙_}
 use native.Mathlib.Omega.{arith}
+use borrow.Author.Needs.{needs}
 use Rattle.report.proofs.Writing.{as-text}
 use Rattle.report.proofs.Numerals.{numeral-is, twenty-digits}
-use borrow.Author.Needs.{needs}
 use Rattle.report.proofs.text.put_number.Statement.{statement}
 use Rattle.report.proofs.text.put_number.Tie as tie
-use Rattle.report.proofs.text.put_number.Reads as reads
-use Rattle.report.proofs.text.put_number.Lts as lts
-use Rattle.io.proofs.decimal.Reads as decimal-reads
-use Rattle.report.proofs.text.put.Reads as put-reads
 
--- src/text.rt:29:9
 decimal-requires : tie.Need-decimal-requires
 decimal-requires c κs = search needs
 
--- src/text.rt:30:18
 array-share-prefix-digits : tie.Need-array-share-prefix-digits
 array-share-prefix-digits c = search needs
 
--- src/text.rt:30:18
 slice-aggregate-put : tie.Need-slice-aggregate-put
 slice-aggregate-put c = search needs
 
--- src/text.rt:30:5
 put-requires : tie.Need-put-requires
 put-requires c κs = omega (arith, c .before .before .decimal .ensures .0 .1, twenty-digits (c .before .before .decimal .result) (c .before .before .before .before .before .args .n) (c .before .before .decimal .ensures .1 .0) (c .before .before .before .before .before .fits .n .fits))
 
--- src/text.rt:24:1
 same-length : tie.Need-same-length
 same-length c = search needs
 
--- src/text.rt:24:1
 returns : tie.Need-returns
 returns c = as-text (c .before .before .put .ensures) (c .before .before .before .before .before .decimal .ensures .1 .1 ∙ sym (numeral-is (c .before .before .before .before .before .decimal .result) (c .before .before .before .before .before .before .before .before .args .n) (c .before .before .before .before .before .decimal .ensures .1 .0) (twenty-digits (c .before .before .before .before .before .decimal .result) (c .before .before .before .before .before .before .before .before .args .n) (c .before .before .before .before .before .decimal .ensures .1 .0) (c .before .before .before .before .before .before .before .before .fits .n .fits))))
 

@@ -1,0 +1,65 @@
+// Questions: for each its title, and the desk program's lines for its sheet and calls.
+use drafting::field;
+use drafting::script;
+use libc::STDOUT_FILENO;
+use marking::block;
+use marking::desk;
+use retimer::limits::Monitor;
+
+// A question whose sheet and calls are bytes.
+pub fn ask_bytes(title: &[u8], sheet: &[u8], calls: &[u8]) {
+    io::write_all(STDOUT_FILENO, title);
+    io::write_all(STDOUT_FILENO, b"\n");
+    desk::answer(sheet, calls);
+}
+
+// A question whose calls are text.
+fn ask(title: &[u8], sheet: &[u8], calls: &[u8]) {
+    let mut list = [0u8; block::BYTES];
+    let n = script::calls_of(calls, &mut list);
+    ask_bytes(title, sheet, &list[..n]);
+}
+
+// A question whose sheet is the first n of some bytes.
+pub fn ask_front(title: &[u8], bytes: &[u8], n: usize, calls: &[u8]) {
+    if n <= bytes.len() {
+        ask(title, &bytes[..n], calls);
+    }
+}
+
+// A question whose sheet is text: a course sheet's letter, or its bytes as numbers.
+fn ask_text(title: &[u8], sheet: &[u8], calls: &[u8]) {
+    let letter = field::capital(sheet);
+    match letter {
+        b'A' => ask(title, &course::SHEET_A, calls),
+        b'B' => ask(title, &course::SHEET_B, calls),
+        b'C' => ask(title, &course::SHEET_C, calls),
+        b'D' => ask(title, &course::SHEET_D, calls),
+        b'E' => ask(title, &course::SHEET_E, calls),
+        _ => ask_numbers(title, sheet, calls),
+    }
+}
+
+fn ask_numbers(title: &[u8], sheet: &[u8], calls: &[u8]) {
+    let mut bytes = [0u8; Monitor::SIZE];
+    let n = script::bytes_of(sheet, &mut bytes);
+    ask(title, &bytes[..n], calls);
+}
+
+// A line: the title, the sheet, the calls and why its answers are as they are, with semicolons between them. The last is for the reader.
+fn ask_line(line: &[u8]) {
+    let title = field::find(line, 0, b';');
+    let sheet = field::find(line, title + 1, b';');
+    let calls = field::find(line, sheet + 1, b';');
+    ask_text(&line[..title], &line[title..sheet], &line[sheet..calls]);
+}
+
+// A table of questions, one to a line.
+pub fn ask_all(table: &[u8]) {
+    let mut at: usize = 0;
+    while at < table.len() {
+        let end = field::find(table, at, b'\n');
+        ask_line(&table[at..end]);
+        at = end + 1;
+    }
+}

@@ -1,0 +1,55 @@
+// Refusals of calls, at their edges. A refused call hands back the box as it came: the calls after it show that.
+use crate::ask::ask_all;
+
+// I-7 and I-8.
+pub fn input() {
+    ask_all(
+        b"\
+I-7; A; 2 at 0, 254 at 0, 2 at 1000000001, 1 at 0; Sheet A has two commands; I-7 is tested before I-8.
+I-8; A; 0 at 1000000001, 0 at 4294967295, 255 at 1000000001, 0 at 0, 255 at 1000000000, 0 at 1000000000; The last date is a date; the next is not.
+",
+    );
+}
+
+// S-1, and what moves the date.
+pub fn date() {
+    ask_all(
+        b"\
+S-1; A; 0 at 5, 0 at 4, 255 at 4, 2 at 4, 255 at 5, 255 at 5, 0 at 5; A date may come again, and none may fall; I-7 is tested before S-1.
+S-1 after none and a drop; C; 0 at 5, 255 at 6, 0 at 5, 0 at 7, 1 at 6, 1 at 7; A collection that answers none moves the date, and so does a drop.
+Refusals leave the date; A; 0 at 2, 2 at 9, 0 at 1000000001, 0 at 1, 0 at 2; No refusal moves it.
+",
+    );
+}
+
+// S-2.
+pub fn late() {
+    ask_all(
+        b"\
+S-2, in time; B; 0 at 999999990, 1 at 999999990; 0 and 1 ten ticks later: the last date is just reached.
+S-2, a tick late; B; 0 at 999999991, 1 at 999999991, 255 at 999999991, 1 at 999999991; One tick later it is not; the lamp knows no last date.
+S-2 before S-3; A; 1 at 1000000000, 31 x 0 at 1000000000, 1 at 1000000000, 0 at 1000000000; With no place free, 1 is S-2 all the same, and 0 is S-3.
+",
+    );
+}
+
+// S-3 and S-4, on sheet E with command 0 leading back from location 1 to 0, so that batches follow each other.
+pub fn room() {
+    ask_all(
+        b"\
+S-3 counts the whole batch; 2 1 2 0 2 0, 14 0 14 0 28 0 7 0, 0 0 0 0 255 0 255, 1 1 0 0 255 0 255, 0 0 0 0 255 0 255; 16 x 0 at 0, 1 at 0, 15 x 0 at 0, 1 at 0, 255 at 0, 1 at 0, 0 at 0, 1 at 0; Seventeen leave 15 places: sixteen do not fit, and fit after one collection. Holding takes no place of the schedule.
+S-3, just room enough; 2 1 2 0 2 0, 14 0 14 0 28 0 7 0, 0 0 0 0 255 0 255, 1 1 0 0 255 0 255, 0 0 0 0 255 0 255; 16 x 0 at 0, 1 at 0, 14 x 0 at 0, 1 at 0; Fifteen fit exactly.
+S-4; 2 1 2 0 2 0, 14 0 14 0 28 0 7 0, 0 0 0 0 255 0 255, 1 1 0 0 255 0 255, 0 0 0 0 255 0 255; 16 x 0 at 0, 0 at 0, 0 at 7, 1 at 3, 0 at 3; S-4 does not move the date, and a correction is looked for first.
+No S-4 for a drop; 2 1 3 0 2 0, 14 0 14 0 28 0 0 0, 0 0 0 0 255 0 255, 1 1 0 0 255 0 255; 16 x 0 at 0, 2 at 0, 1 at 0; Command 2 has no rule: it is dropped, whatever is held.
+",
+    );
+}
+
+// Collections: the oldest, one at a time, once its date has come.
+pub fn collections() {
+    ask_all(
+        b"\
+Played in order; A; 1 at 4, 1 at 4, 0 at 4, 255 at 8, 255 at 8, 255 at 9, 255 at 9, 255 at 9
+",
+    );
+}

@@ -1,0 +1,104 @@
+// Waiting, resetting, and the bound test.
+use crate::print;
+use retimer::clocks;
+use retimer::limits::Monitor;
+ghost use Rattle.retimer.specs.Readings.{Readings};
+
+// Two readings before and after a wait.
+fn wait(x: u8, y: u8, n: u32) {
+    if Monitor::TOP < x || Monitor::TOP < y {
+        return;
+    }
+    let r = clocks::wait_many([x, y], n);
+    print::word(b"wait");
+    print::byte(x);
+    print::byte(y);
+    print::date(n);
+    print::word(b":");
+    print::byte(r[0]);
+    print::byte(r[1]);
+    print::word(b"\n");
+}
+
+// The readings after ticks one by one from zero.
+fn after_ticks(n: u32) -> [u8; 2]
+    ensures { λ r. ⌜ Readings r ⌝ }
+{
+    let mut r = [0u8; 2];
+    let mut i: u32 = 0;
+    while i < n {
+        let next = clocks::wait(r);
+        r = next;
+        i += 1;
+    }
+    r
+}
+
+fn ticks(n: u32) {
+    let r = after_ticks(n);
+    print::word(b"ticks");
+    print::date(n);
+    print::word(b":");
+    print::byte(r[0]);
+    print::byte(r[1]);
+    print::word(b"\n");
+}
+
+// 31 stands for every reading above 30.
+pub fn waits() {
+    wait(0, 5, 0);
+    wait(0, 5, 1);
+    wait(0, 5, 30);
+    wait(0, 5, 31);
+    wait(0, 5, 1_000_000);
+    wait(0, 5, 4_294_967_295);
+    wait(30, 31, 0);
+    wait(30, 31, 1);
+    wait(31, 0, 1);
+    ticks(0);
+    ticks(30);
+    ticks(31);
+    ticks(32);
+}
+
+fn reset(set: u8) {
+    let r = clocks::reset([7, 9], set);
+    print::word(b"reset");
+    print::byte(set);
+    print::word(b":");
+    print::byte(r[0]);
+    print::byte(r[1]);
+    print::word(b"\n");
+}
+
+// Of the readings 7 and 9: bit 0 is clock 1, bit 1 clock 2.
+pub fn resets() {
+    reset(0);
+    reset(1);
+    reset(2);
+    reset(3);
+}
+
+fn within(low: u8, high: u8, x: u8) {
+    print::word(b"within");
+    print::configuration(low, high, x);
+    print::truth(clocks::within(low, high, x));
+}
+
+// Both ends are included; 255 is no upper bound.
+pub fn bounds() {
+    within(0, 0, 0);
+    within(0, 0, 1);
+    within(5, 10, 4);
+    within(5, 10, 5);
+    within(5, 10, 10);
+    within(5, 10, 11);
+    within(0, 30, 30);
+    within(0, 30, 31);
+    within(30, 30, 29);
+    within(30, 30, 30);
+    within(30, 30, 31);
+    within(30, 255, 29);
+    within(30, 255, 31);
+    within(0, 255, 31);
+}

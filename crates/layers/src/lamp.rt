@@ -1,0 +1,32 @@
+// The lamp, with a list of commands pending.
+use crate::guarded;
+use crate::print;
+use retimer::lamp;
+use retimer::limits::Monitor;
+use retimer::liveness;
+
+fn lit<'a>(s: &'a [u8], cs: &'a [u8], l: u8, x: u8, y: u8) {
+    if !guarded::stands(s, l, x, y) {
+        return;
+    }
+    if Monitor::COUNT < cs.len() {
+        return;
+    }
+    let table = liveness::live_table(s);
+    let sets = table.sets;
+    print::word(b"lamp");
+    print::configuration(l, x, y);
+    print::truth(lamp::is_lit(s, &sets, cs, l, [x, y]));
+}
+
+pub fn all() {
+    lit(&course::SHEET_B, b"", 0, 31, 31);
+    lit(&course::SHEET_B, b"\x00", 0, 31, 31);
+    lit(&course::SHEET_B, b"", 2, 10, 31);
+    lit(&course::SHEET_C, b"\x00", 0, 8, 31);
+    lit(&course::SHEET_C, b"\x00", 0, 9, 31);
+    lit(&course::SHEET_C, b"", 0, 8, 31);
+    lit(&course::SHEET_C, b"", 0, 9, 31);
+    lit(&guarded::TWO_CLOCKS, b"\x00", 0, 7, 7);
+    lit(&guarded::TWO_CLOCKS, b"\x00", 0, 8, 8);
+}

@@ -1,0 +1,44 @@
+// From which configurations an accepting location can still be reached.
+use crate::guarded;
+use crate::print;
+use retimer::liveness;
+
+fn live(s: &[u8], l: u8, x: u8, y: u8) {
+    if !guarded::stands(s, l, x, y) {
+        return;
+    }
+    let table = liveness::live_table(s);
+    let sets = table.sets;
+    print::word(b"live");
+    print::configuration(l, x, y);
+    print::truth(liveness::is_live(s, &sets, l, [x, y]));
+}
+
+pub fn one_clock() {
+    let b = course::SHEET_B;
+    live(&b, 0, 31, 31);
+    live(&b, 1, 0, 31);
+    live(&b, 1, 15, 31);
+    live(&b, 1, 16, 31);
+    live(&b, 2, 31, 31);
+    let c = course::SHEET_C;
+    live(&c, 0, 8, 31);
+    live(&c, 0, 9, 31);
+    live(&c, 1, 20, 31);
+    live(&c, 1, 21, 31);
+    live(&c, 2, 31, 31);
+    live(&course::SHEET_D, 1, 31, 31);
+    live(&course::SHEET_E, 0, 31, 31);
+}
+
+pub fn two_clocks() {
+    let s = guarded::TWO_CLOCKS;
+    live(&s, 0, 7, 7);
+    live(&s, 0, 8, 8);
+    live(&s, 1, 0, 7);
+    live(&s, 1, 0, 8);
+    live(&s, 1, 2, 9);
+    live(&s, 1, 2, 10);
+    live(&s, 1, 5, 10);
+    live(&s, 1, 6, 0);
+}

@@ -1,0 +1,52 @@
+// The rule that applies.
+use crate::guarded;
+use crate::print;
+use retimer::lookup;
+
+// Where a command leads.
+fn step(s: &[u8], c: u8, l: u8, x: u8, y: u8) {
+    if !guarded::stands(s, l, x, y) {
+        return;
+    }
+    let next = lookup::step(s, c, l, [x, y]);
+    print::word(b"step");
+    print::byte(c);
+    print::configuration(l, x, y);
+    if !next.found {
+        print::word(b": none\n");
+        return;
+    }
+    let r = next.readings;
+    print::word(b":");
+    print::configuration(next.location, r[0], r[1]);
+    print::word(b"\n");
+}
+
+pub fn one_clock() {
+    let a = course::SHEET_A;
+    step(&a, 0, 0, 0, 31);
+    step(&a, 1, 0, 7, 31);
+    step(&a, 0, 1, 4, 31);
+    step(&a, 1, 1, 4, 31);
+    step(&a, 1, 1, 5, 31);
+    step(&a, 1, 1, 31, 31);
+    let b = course::SHEET_B;
+    step(&b, 0, 0, 3, 31);
+    step(&b, 1, 0, 3, 31);
+    step(&b, 1, 1, 9, 31);
+    step(&b, 1, 1, 10, 31);
+    step(&b, 1, 1, 15, 31);
+    step(&b, 1, 1, 16, 31);
+    step(&b, 0, 2, 0, 31);
+    step(&b, 2, 0, 0, 31);
+}
+
+pub fn two_clocks() {
+    let s = guarded::TWO_CLOCKS;
+    step(&s, 0, 0, 7, 7);
+    step(&s, 1, 1, 3, 10);
+    step(&s, 1, 1, 3, 11);
+    step(&s, 1, 1, 2, 10);
+    step(&s, 1, 1, 5, 0);
+    step(&s, 1, 1, 6, 0);
+}

@@ -1,0 +1,23 @@
+// Runs each layer of the retimer on the course sheets and at the edges. What is expected stands in the file `stdout`, written from document 01.
+mod clocks;
+mod guarded;
+mod lamp;
+mod liveness;
+mod lookup;
+mod optimum;
+mod print;
+mod sheets;
+
+fn main() {
+    clocks::waits();
+    clocks::resets();
+    clocks::bounds();
+    sheets::all();
+    lookup::one_clock();
+    lookup::two_clocks();
+    liveness::one_clock();
+    liveness::two_clocks();
+    optimum::one_clock();
+    optimum::two_clocks();
+    lamp::all();
+}

@@ -1,0 +1,91 @@
+// The least ticks of a list of commands, and their dates.
+use crate::guarded;
+use crate::print;
+use retimer::limits::Monitor;
+use retimer::liveness;
+use retimer::optimum;
+use retimer::optimum::Planned;
+
+fn print_dates(dates: &[u32]) {
+    let mut i: usize = 0;
+    while i < dates.len() {
+        print::date(dates[i]);
+        i += 1;
+    }
+}
+
+// The ticks, the dates and the configuration reached.
+fn print_plan(p: Planned, dates: &[u32]) {
+    if p.value == optimum::EXTENSIBLE {
+        print::word(b"extensible\n");
+        return;
+    }
+    if p.value == optimum::DEAD {
+        print::word(b"dead\n");
+        return;
+    }
+    print::word(b"ticks");
+    print::number(p.value as u64);
+    print::word(b" dates");
+    print_dates(dates);
+    print::word(b" at");
+    print_reached(p);
+    print::word(b"\n");
+}
+
+// The configuration after the commands.
+fn print_reached(p: Planned) {
+    let r = p.readings;
+    if r.len() == 2 {
+        print::configuration(p.location, r[0], r[1]);
+    }
+}
+
+// Commands from a configuration and a date on.
+fn plan(s: &[u8], cs: &[u8], l: u8, x: u8, y: u8, t: u32) {
+    if !guarded::stands(s, l, x, y) {
+        return;
+    }
+    if cs.len() == 0 {
+        return;
+    }
+    if Monitor::BATCH < cs.len() {
+        return;
+    }
+    if Monitor::LATEST < t {
+        return;
+    }
+    let table = liveness::live_table(s);
+    let sets = table.sets;
+    let mut out = [0u32; Monitor::BATCH];
+    let p = optimum::plan(s, &sets, cs, l, [x, y], t, &mut out);
+    print_plan(p, &out[..cs.len()]);
+}
+
+pub fn one_clock() {
+    print::word(b"plan\n");
+    plan(&course::SHEET_A, b"\x01", 1, 1, 31, 5);
+    plan(&course::SHEET_B, b"\x00\x01", 0, 5, 31, 5);
+    plan(&course::SHEET_B, b"\x00", 0, 3, 31, 3);
+    plan(&course::SHEET_B, b"\x01", 0, 0, 31, 0);
+    plan(&course::SHEET_C, b"\x00\x01", 0, 8, 31, 8);
+    plan(&course::SHEET_C, b"\x00\x01", 0, 9, 31, 9);
+    plan(&course::SHEET_D, b"\x00\x01", 0, 3, 31, 3);
+    plan(&course::SHEET_D, b"\x00\x01", 0, 31, 31, 1_000_000_000);
+    plan(
+        &course::SHEET_E,
+        b"\x00\x00\x00\x00\x00\x00\x00\x00\x00\x00\x00\x00\x00\x00\x00\x00\x01",
+        0,
+        0,
+        31,
+        0,
+    );
+}
+
+pub fn two_clocks() {
+    let s = guarded::TWO_CLOCKS;
+    plan(&s, b"\x00\x01", 0, 7, 7, 7);
+    plan(&s, b"\x00\x01", 0, 8, 8, 8);
+    plan(&s, b"\x01", 1, 0, 7, 7);
+    plan(&s, b"\x01", 1, 5, 10, 10);
+}
