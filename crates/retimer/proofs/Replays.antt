@@ -69,12 +69,12 @@ replaying-one b₀ s i b a r p h c =
 pub replaying-valid : (b₀ : Monitor) (s : Bytes) (i : ℕ) (b : Monitor) (a : Answer) → Valid b₀ → Replaying b₀ s i b a → Valid b
 replaying-valid b₀ s i b a v p = made-valid v (p .made)
 
-pub replaying-all : (sheet : Bytes) (b₀ : Monitor) (s : Bytes) (i : ℕ) (b : Monitor) (a : Answer) (k : Checked) → FreshRight sheet b₀ → Replaying b₀ s i b a → length s < i + 5 → Followed sheet (callsOf s) nothing (record { checked = k; monitor = b; answer = a })
+pub replaying-all : (sheet : Bytes) (b₀ : Monitor) (s : Bytes) (i : ℕ) (b : Monitor) (a : Answer) (k : Checked) → FreshRight sheet b₀ → Replaying b₀ s i b a → length s < i + 5 → Followed sheet (callsOf s) nothing (record { checked = k; monitor = b; answer = a }) × Valid b
 replaying-all sheet b₀ s i b a k f p h =
     let n : i / 5 ≡ length s / 5 = omega (arith, p .whole, p .inside) in
     let m : Made b₀ (callsOf s) (p .answers) b = rw n at (p .made) in
     let d : DemandThree sheet (callsOf s) (p .answers) b = demand-three sheet b₀ f (callsOf s) (p .answers) b m in
-    record {
+    let followed : Followed sheet (callsOf s) nothing (record { checked = k; monitor = b; answer = a }) = record {
       outcomes = outcomesOf (p .answers);
       history = d .history;
       recorded = d .recorded;
@@ -83,5 +83,5 @@ replaying-all sheet b₀ s i b a k f p h =
       pending-is = d .pending-is;
       schedule-is = d .schedule-is;
       sheet-is = d .sheet-is;
-      valid = d .valid;
-    }
+    } in
+    (followed, d .valid)

@@ -8,7 +8,7 @@ use lib.ListN.{length}
 use Rattle.enforcement.specs.Automaton.{Bytes, byte, automaton}
 use Rattle.enforcement.specs.History.{History, fresh, schedule, HistoryOf, Call, offer, collect, Outcome}
 use Rattle.retimer.specs.declared.replay.Replayed.{Replayed}
-use Rattle.retimer.specs.View.{pendingOf, scheduleOf, bytesOf, Valid}
+use Rattle.retimer.specs.View.{pendingOf, scheduleOf, bytesOf}
 use Rattle.retimer.specs.Calls.{outcomeOf}
 
 -- A date in four bytes, low byte first.
@@ -42,4 +42,3 @@ pub record Followed (s : Bytes) (ks : List Call) (start : Outcome) (r : Replayed
   pub pending-is : pendingOf (r .monitor) ≡ history .pending
   pub schedule-is : scheduleOf (r .monitor) ≡ schedule history
   pub sheet-is : bytesOf (r .monitor) ≡ s
-  pub valid : Valid (r .monitor)

@@ -5,6 +5,7 @@ use crate::limits::Monitor;
 ghost use mathlib.Core.Path.{_≡_};
 ghost use Prim.Native.Nat.{ℕ, _+_, _*_, _≤_, _<_};
 ghost use lib.ListN.{length};
+ghost use Rattle.enforcement.specs.Limits.{maxCount};
 ghost use Rattle.enforcement.specs.Automaton.{automaton, bit, accepting, locations, transitionAt, transitions};
 ghost use Rattle.enforcement.specs.Model.{area, compile};
 ghost use Rattle.enforcement.specs.Loading.{Loads};
@@ -28,7 +29,7 @@ fn in_set(set: u16, l: u8) -> bool
 
 // A set with a location added.
 fn with(set: u16, l: u8) -> u16
-    requires { ⌜ l < 16 ⌝ }
+    requires { ⌜ l < maxCount ⌝ }
     ensures { λ v. ⌜ Added set l v ⌝ }
 {
     set | (1u16 << l)

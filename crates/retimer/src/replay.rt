@@ -46,7 +46,7 @@ pub fn call_at(b: Monitor, s: &[u8], i: usize) -> Answered
 
 // The calls of a list of bytes, from a fresh box of a sheet.
 pub fn replay(s: &[u8], calls: &[u8]) -> Replayed
-    ensures { λ r. ⌜ (checkedOf (r .checked) ≡ check (now (s .entry))) × (Loads (now (s .entry)) → Followed (now (s .entry)) (callsOf (now (calls .entry))) nothing r) ⌝ }
+    ensures { λ r. ⌜ (checkedOf (r .checked) ≡ check (now (s .entry))) × (Loads (now (s .entry)) → (Followed (now (s .entry)) (callsOf (now (calls .entry))) nothing r) × (Valid (r .monitor))) ⌝ }
 {
     let loaded = Monitor::load(s);
     let checked = loaded.checked;
