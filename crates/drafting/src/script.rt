@@ -39,7 +39,7 @@ pub fn bytes_of(text: &[u8], out: &mut [u8]) -> usize
 // A call, how often it is made, and the place after it in the text.
 struct Entry {
     times: u64,
-    command: u64,
+    action: u64,
     date: u64,
     end: usize,
 }
@@ -55,14 +55,14 @@ fn is_times(text: &[u8], at: usize) -> bool {
     text[at] == b' ' && text[at + 1] == b'x'
 }
 
-// A command and its date, from a place on.
+// An action and its date, from a place on.
 fn call_from(text: &[u8], at: usize, times: u64) -> Entry {
-    let command = numeral::number_at(text, at);
-    let next = numeral::first_digit(text, command.end);
+    let action = numeral::number_at(text, at);
+    let next = numeral::first_digit(text, action.end);
     let date = numeral::number_at(text, next);
     Entry {
         times,
-        command: command.value,
+        action: action.value,
         date: date.value,
         end: date.end,
     }
@@ -78,11 +78,11 @@ fn entry_at(text: &[u8], at: usize) -> Entry {
     call_from(text, at, 1)
 }
 
-// Puts a call at a place: a command, or 255 for a collection, and a date in four bytes.
-fn put_call(out: &mut [u8], at: usize, command: u64, date: u64)
+// Puts a call at a place: an action, or 255 for a collection, and a date in four bytes.
+fn put_call(out: &mut [u8], at: usize, action: u64, date: u64)
     requires { ⌜ at + 5 ≤ length (now out) ⌝ }
 {
-    out[at] = byte_of(command, 0);
+    out[at] = byte_of(action, 0);
     out[at + 1] = byte_of(date, 0);
     out[at + 2] = byte_of(date, 1);
     out[at + 3] = byte_of(date, 2);
@@ -94,13 +94,13 @@ fn put_entry(out: &mut [u8], at: usize, e: Entry) -> usize
     requires { ⌜ at + 5 ≤ length (now out) ⌝ }
     ensures { λ r. ⌜ (at < r) × (r ≤ length (now (out .exit))) ⌝ }
 {
-    let command = e.command;
+    let action = e.action;
     let date = e.date;
     let mut left = e.times;
-    put_call(out, at, command, date);
+    put_call(out, at, action, date);
     let mut end = at + CALL;
     while 1 < left && end + CALL <= out.len() {
-        put_call(out, end, command, date);
+        put_call(out, end, action, date);
         end += CALL;
         left -= 1;
     }

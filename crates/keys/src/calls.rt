@@ -49,7 +49,7 @@ No S-4 for a drop; 2 1 3 0 2 0, 14 0 14 0 28 0 0 0, 0 0 0 0 255 0 255, 1 1 0 0 2
 pub fn collections() {
     ask_all(
         b"\
-Played in order; A; 1 at 4, 1 at 4, 0 at 4, 255 at 8, 255 at 8, 255 at 9, 255 at 9, 255 at 9
+Played in order; A; 1 at 4, 1 at 4, 0 at 4, 255 at 8, 255 at 8, 255 at 9, 255 at 9, 255 at 9; Scheduled at 4, 9 and 9; at 8 the second has not come.
 ",
     );
 }

@@ -31,7 +31,7 @@ pub fn bounds() {
     ask_all(
         b"\
 High 30; 3 1 2 0 4 0, 18 0 7 0 25 0 7 0 32 0 0 0, 0 1 0 0 30 0 255, 1 2 0 0 20 0 255; ; 30 is the largest bound.
-High 31; 3 1 2 0 4 0, 18 0 7 0 25 0 7 0 32 0 0 0, 0 1 0 0 31 0 255, 1 2 0 0 20 0 255;
+High 31; 3 1 2 0 4 0, 18 0 7 0 25 0 7 0 32 0 0 0, 0 1 0 0 31 0 255, 1 2 0 0 20 0 255; ; 31 is above it.
 0 to 4 and 5 to 255; 1 1 1 0 1 0, 10 0 14 0, 0 0 0 0 4 0 255, 0 0 0 5 255 0 255; ; Intervals that touch in no reading.
 0 to 5 and 5 to 255; 1 1 1 0 1 0, 10 0 14 0, 0 0 0 0 5 0 255, 0 0 0 5 255 0 255; ; Reading 5 satisfies both.
 ",
@@ -42,11 +42,11 @@ High 31; 3 1 2 0 4 0, 18 0 7 0 25 0 7 0 32 0 0 0, 0 1 0 0 31 0 255, 1 2 0 0 20 0
 pub fn no_calls() {
     ask_all(
         b"\
-Sheet A; A;
-Sheet B; B;
-Sheet C; C;
-Sheet D; D;
-Sheet E; E;
+Sheet A; A; ; Four rules, both locations accepting.
+Sheet B; B; ; Two rules, one accepting location.
+Sheet C; C; ; The same figures as B.
+Sheet D; D; ; The same figures as B.
+Sheet E; E; ; Two rules, location 1 accepting.
 ",
     );
 }

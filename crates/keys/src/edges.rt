@@ -6,12 +6,12 @@ pub fn one_clock() {
     ask_all(
         b"\
 30 to 30; 2 1 1 0 2 0, 14 0 7 0 21 0 0 0, 0 1 0 30 30 0 255; 255 at 0, 0 at 5, 255 at 29, 255 at 30; It waits for reading 30.
-30 to 30, at 30; 2 1 1 0 2 0, 14 0 7 0 21 0 0 0, 0 1 0 30 30 0 255; 255 at 30, 0 at 30
+30 to 30, at 30; 2 1 1 0 2 0, 14 0 7 0 21 0 0 0, 0 1 0 30 30 0 255; 255 at 30, 0 at 30; It is just in time.
 30 to 30, at 31; 2 1 1 0 2 0, 14 0 7 0 21 0 0 0, 0 1 0 30 30 0 255; 255 at 31, 0 at 31; At 31 the reading is past.
-30 to 255, at 29; 2 1 1 0 2 0, 14 0 7 0 21 0 0 0, 0 1 0 30 255 0 255; 0 at 29
+30 to 255, at 29; 2 1 1 0 2 0, 14 0 7 0 21 0 0 0, 0 1 0 30 255 0 255; 0 at 29; It waits a tick.
 30 to 255, late; 2 1 1 0 2 0, 14 0 7 0 21 0 0 0, 0 1 0 30 255 0 255; 255 at 31, 0 at 1000000000; Readings above 30 act alike.
-0 to 0, at 0; 2 1 1 0 2 0, 14 0 7 0 21 0 0 0, 0 1 0 0 0 0 255; 0 at 0
-0 to 0, at 1; 2 1 1 0 2 0, 14 0 7 0 21 0 0 0, 0 1 0 0 0 0 255; 255 at 1, 0 at 1
+0 to 0, at 0; 2 1 1 0 2 0, 14 0 7 0 21 0 0 0, 0 1 0 0 0 0 255; 0 at 0; It is just in time.
+0 to 0, at 1; 2 1 1 0 2 0, 14 0 7 0 21 0 0 0, 0 1 0 0 0 0 255; 255 at 1, 0 at 1; At 1 the reading is past.
 ",
     );
 }
@@ -26,7 +26,7 @@ Two clocks, too late; 3 2 2 0 4 0, 18 0 7 0 25 0 7 0 32 0 0 0, 0 1 1 0 255 0 255
 Two clocks, held too long; 3 2 2 0 4 0, 18 0 7 0 25 0 7 0 32 0 0 0, 0 1 1 0 255 0 255, 1 2 0 3 5 0 10; 0 at 7, 255 at 8, 1 at 8; Held in time, and then too late.
 Reset of clock 2; 3 2 2 0 4 0, 18 0 7 0 25 0 7 0 32 0 0 0, 0 1 2 0 255 0 255, 1 2 0 0 255 4 4; 0 at 6, 1 at 8; 0 resets clock 2 alone, and 1 comes 4 ticks later.
 Clock 1 is kept; 3 2 2 0 4 0, 18 0 7 0 25 0 7 0 32 0 0 0, 0 1 2 0 255 0 255, 1 2 0 0 9 4 4; 0 at 6, 1 at 6; Clock 1 is not reset there: it would read too much.
-Reset of both clocks; 3 2 2 0 4 0, 18 0 7 0 25 0 7 0 32 0 0 0, 0 1 3 0 255 0 255, 1 2 0 2 255 0 3; 0 at 100, 1 at 100
+Reset of both clocks; 3 2 2 0 4 0, 18 0 7 0 25 0 7 0 32 0 0 0, 0 1 3 0 255 0 255, 1 2 0 2 255 0 3; 0 at 100, 1 at 100; 1 comes 2 to 3 ticks after 0.
 ",
     );
 }

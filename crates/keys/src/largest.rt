@@ -9,7 +9,7 @@ ghost use lib.ListN.{length};
 const ROOM: usize = 525;
 
 // Puts the rule number i of the largest sheet at a place: command and next location i % 16; the four rules of a command have the readings 0, 1, 2 and from 3 on.
-fn put_rule(sheet: &mut [u8], at: usize, i: u8)
+fn put_transition(sheet: &mut [u8], at: usize, i: u8)
     requires { ⌜ at + 7 ≤ length (now sheet) ⌝ }
 {
     let low = i / 16;
@@ -22,13 +22,13 @@ fn put_rule(sheet: &mut [u8], at: usize, i: u8)
 }
 
 // Puts the 64 rules of location 0.
-fn put_rules(sheet: &mut [u8])
+fn put_transitions(sheet: &mut [u8])
     requires { ⌜ length (now sheet) ≡ 525 ⌝ }
 {
     let mut i: u8 = 0;
     let mut at: usize = 70;
     while i < 64 {
-        put_rule(sheet, at, i);
+        put_transition(sheet, at, i);
         at += 7;
         i += 1;
     }
@@ -41,7 +41,7 @@ fn largest() {
         b"16 2 16 0 255 255, 70 0 192 1, 6 2 0 0, 6 2 0 0, 6 2 0 0, 6 2 0 0, 6 2 0 0, 6 2 0 0, 6 2 0 0, 6 2 0 0, 6 2 0 0, 6 2 0 0, 6 2 0 0, 6 2 0 0, 6 2 0 0, 6 2 0 0, 6 2 0 0";
     let mut sheet = [0u8; ROOM];
     script::bytes_of(header, &mut sheet);
-    put_rules(&mut sheet);
+    put_transitions(&mut sheet);
     ask_front(b"The largest sheet", &sheet, 518, b"0 at 0, 5 at 7, 0 at 7");
     ask_front(b"A byte more", &sheet, 519, b"");
 }

@@ -9,10 +9,10 @@ use Rattle.drafting.proofs.script.put_entry.Statement.{statement}
 use Rattle.drafting.proofs.script.put_entry.Tie as tie
 
 abbrev Inv-loop : tie.InvT-loop
-Inv-loop out₀ at command date left₀ end₀ out left end = (at < end) × ((end ≤ length out) × (length out ≡ length out₀))
+Inv-loop out₀ at action date left₀ end₀ out left end = (at < end) × ((end ≤ length out) × (length out ≡ length out₀))
 
 abbrev μ-loop : tie.MeasureT-loop
-μ-loop out₀ at command date left₀ end₀ out left end = left
+μ-loop out₀ at action date left₀ end₀ out left end = left
 
 put-call-requires : tie.Need-put-call-requires Inv-loop μ-loop
 put-call-requires c κs = omega arith

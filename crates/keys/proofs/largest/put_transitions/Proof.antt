@@ -1,11 +1,11 @@
--- `largest::put_rules` meets its contract: each rule lies in the sheet.
+-- `largest::put_transitions` meets its contract: each rule lies in the sheet.
 -- Assumes nothing.
 use mathlib.Core.Path.{_≡_, refl}
 use Prim.Native.Nat.{_+_, _-_, _*_, _≤_}
 use native.Mathlib.Omega.{arith}
 use lib.ListN.{length}
-use Rattle.keys.proofs.largest.put_rules.Statement.{statement}
-use Rattle.keys.proofs.largest.put_rules.Tie as tie
+use Rattle.keys.proofs.largest.put_transitions.Statement.{statement}
+use Rattle.keys.proofs.largest.put_transitions.Tie as tie
 
 abbrev Inv-loop : tie.InvT-loop
 Inv-loop sheet₀ i₀ at₀ sheet i at = (i ≤ 64) × ((at ≡ 70 + 7 * i) × (length sheet ≡ 525))
@@ -16,8 +16,8 @@ abbrev μ-loop : tie.MeasureT-loop
 loop-holds : tie.Need-loop-holds Inv-loop μ-loop
 loop-holds c = (omega arith, (refl, c .before .pre))
 
-put-rule-requires : tie.Need-put-rule-requires Inv-loop μ-loop
-put-rule-requires c κs = omega arith
+put-transition-requires : tie.Need-put-transition-requires Inv-loop μ-loop
+put-transition-requires c κs = omega arith
 
 add-at : tie.Need-add-at Inv-loop μ-loop
 add-at c = omega arith
@@ -37,14 +37,14 @@ same-length c = omega arith
 returns : tie.Need-returns Inv-loop μ-loop
 returns c = tt
 
-pub put-rules-spec : {M : Type 1} → statement M
-put-rules-spec =
+pub put-transitions-spec : {M : Type 1} → statement M
+put-transitions-spec =
     tie.close
     (tie.spec
     Inv-loop
     μ-loop
     loop-holds
-    put-rule-requires
+    put-transition-requires
     add-at
     add-i
     loop-less

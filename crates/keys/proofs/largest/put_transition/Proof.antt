@@ -1,10 +1,10 @@
--- `largest::put_rule` meets its contract: stores keep the length.
+-- `largest::put_transition` meets its contract: stores keep the length.
 -- Assumes nothing.
 use native.Mathlib.Omega.{arith}
 use lib.ListN.{length-set}
 use borrow.Author.Needs.{needs}
-use Rattle.keys.proofs.largest.put_rule.Statement.{statement}
-use Rattle.keys.proofs.largest.put_rule.Tie as tie
+use Rattle.keys.proofs.largest.put_transition.Statement.{statement}
+use Rattle.keys.proofs.largest.put_transition.Tie as tie
 
 slice-write-sheet : tie.Need-slice-write-sheet
 slice-write-sheet c = search needs
@@ -39,8 +39,8 @@ same-length c = search needs
 returns : tie.Need-returns
 returns c = search needs
 
-pub put-rule-spec : {M : Type 1} → statement M
-put-rule-spec =
+pub put-transition-spec : {M : Type 1} → statement M
+put-transition-spec =
     tie.close
     (tie.spec
     slice-write-sheet
