@@ -8,7 +8,7 @@ use Rattle.enforcement.specs.Loading.{Bounded, Loads}
 use Rattle.enforcement.specs.History.{History, fresh, Call, offer, dropped, Dark}
 use Rattle.enforcement.specs.Model.{compile}
 use Rattle.enforcement.specs.Monitor.{Monitor, freshMonitor, lampLit, answer, replay}
-use Rattle.enforcement.specs.Demands.{StandsFor, Demand2All, Demand3All, calls, lampAfter, InTime, Promised}
+use Rattle.enforcement.specs.Demands.{StandsFor, Demand2All, ModelDemand3All, calls, lampAfter, InTime, Promised}
 use Rattle.enforcement.proofs.Loading
 use Rattle.enforcement.proofs.Constraints.{enforcement}
 use Rattle.enforcement.proofs.Uniqueness.{one-history}
@@ -47,18 +47,16 @@ module _ (𝒜 : Automaton) (bounded : Bounded (𝒜 .bytes)) where
       lit-drops 𝒜 (x .history) (r .history) c t (answer (compile 𝒜) b (offer c t) .outcome) (x .not-dark)
       (record { known = i .known; early = i .early; current = subst (λ (d : ℕ). d ≤ t) (x .stands .date-is) (i .current) }) (r .answers)
 
-pub demand-3 : (𝒜 : Automaton) → Bounded (𝒜 .bytes) → Demand3All 𝒜
-unfolding Demand3All
-demand-3 𝒜 bounded ks =
+pub model-demand-3 : (𝒜 : Automaton) → Bounded (𝒜 .bytes) → ModelDemand3All 𝒜
+unfolding ModelDemand3All
+model-demand-3 𝒜 bounded ks =
     let z = Model.right 𝒜 bounded ks in
     let same = Model.dark-is 𝒜 bounded ks in
     record {
       history = z .history;
       recorded = z .recorded;
       only = λ os h r. one-history 𝒜 (fresh 𝒜) ks os (calls 𝒜 ks .outcomes) h (z .history) r (z .recorded);
-      date-is = z .stands .date-is;
-      pending-is = z .stands .pending-is;
-      schedule-is = z .stands .schedule-is;
+      stands = z .stands;
       lit-is = (λ e g. Model.lit-shows 𝒜 bounded (z .history) (calls 𝒜 ks .monitor) (z .stands) e (same .1 g), λ f. Model.not-dark-lit 𝒜 bounded (z .history) (calls 𝒜 ks .monitor) (z .stands) (λ g. f (same .0 g)));
       dark-is = (λ e. same .0 (Model.dark-shows 𝒜 bounded (z .history) (calls 𝒜 ks .monitor) (z .stands) e), λ g. Model.dark-not-lit 𝒜 bounded (z .history) (calls 𝒜 ks .monitor) (z .stands) (same .1 g));
       rule-is = same;
@@ -67,4 +65,4 @@ demand-3 𝒜 bounded ks =
     }
 
 pub promised : (s : Bytes) → Loads s → Promised s
-promised s l = record { demand-2 = demand-2 (automaton s) (Loading.bounded s l); demand-3 = demand-3 (automaton s) (Loading.bounded s l); constraints = enforcement (automaton s) }
+promised s l = record { demand-2 = demand-2 (automaton s) (Loading.bounded s l); demand-3 = model-demand-3 (automaton s) (Loading.bounded s l); constraints = enforcement (automaton s) }

@@ -52,28 +52,26 @@ pub record InTime (a : Automaton) (b : Monitor) (c t : ℕ) : Type 0 where
   pub early : t ≤ maxDate
   pub current : b .date ≤ t
 
--- For a list of calls from a fresh monitor: outcomes, date, pending actions and schedule are the history's, which is the only one; the lamp is lit
--- exactly when no run of further offers could get one more action scheduled, which is document 01's rule; once lit, it is lit after
+-- For a list of calls from a fresh monitor of the model: the outcomes are the history's, which is the only one, and the monitor stands for it, with its
+-- date, pending actions and schedule; the lamp is lit exactly when no run of further offers could get one more action scheduled, which is document 01's rule; once lit, it is lit after
 -- every longer list, and there every offer that is not refused for its action or date is dropped.
-pub record Demand3 (a : Automaton) (ks : List Call) : Type 0 where
+pub record ModelDemand3 (a : Automaton) (ks : List Call) : Type 0 where
   pub history : History
   pub recorded : HistoryOf a (fresh a) ks (calls a ks .outcomes) history
   pub only : (os : List Outcome) (h : History) → HistoryOf a (fresh a) ks os h → (os ≡ calls a ks .outcomes) × (h ≡ history)
-  pub date-is : calls a ks .monitor .date ≡ history .date
-  pub pending-is : calls a ks .monitor .pending ≡ history .pending
-  pub schedule-is : calls a ks .monitor .schedule ≡ schedule history
+  pub stands : StandsFor a (calls a ks .monitor) history
   pub lit-is : (lampAfter a ks ≡ true) ↔ (Schedulable a history → ⊥)
   pub dark-is : (lampAfter a ks ≡ false) ↔ Schedulable a history
   pub rule-is : Dark a history ↔ Schedulable a history
   pub stays-lit : lampAfter a ks ≡ true → (more : List Call) → lampAfter a (ks ++ more) ≡ true
   pub drops : lampAfter a ks ≡ true → (more : List Call) (c t : ℕ) → InTime a (calls a (ks ++ more) .monitor) c t → answer (compile a) (calls a (ks ++ more) .monitor) (offer c t) .outcome ≡ dropped
 
-unfoldable pub Demand3All : Automaton → Type 0
-Demand3All a = (ks : List Call) → Demand3 a ks
+unfoldable pub ModelDemand3All : Automaton → Type 0
+ModelDemand3All a = (ks : List Call) → ModelDemand3 a ks
 
 -- ---- What is promised of every sheet that loads
 
 pub record Promised (s : Bytes) : Type 0 where
   pub demand-2 : Demand2All (automaton s)
-  pub demand-3 : Demand3All (automaton s)
+  pub demand-3 : ModelDemand3All (automaton s)
   pub constraints : Enforcement (automaton s)

@@ -3,14 +3,20 @@ use drafting::field;
 use drafting::script;
 use libc::STDOUT_FILENO;
 use marking::block;
-use marking::desk;
+use marking::key;
+use report::line;
 use retimer::limits::Monitor;
 
-// A question whose sheet and calls are bytes.
+// A question whose sheet and calls are bytes, a block of calls at the most.
 pub fn ask_bytes(title: &[u8], sheet: &[u8], calls: &[u8]) {
     io::write_all(STDOUT_FILENO, title);
     io::write_all(STDOUT_FILENO, b"\n");
-    desk::answer(sheet, calls);
+    if block::BYTES < calls.len() {
+        return;
+    }
+    let mut out = [0u8; line::SHEET + block::LINES];
+    let end = key::key(sheet, calls, &mut out);
+    io::write_all(STDOUT_FILENO, &out[..end]);
 }
 
 // A question whose calls are text.

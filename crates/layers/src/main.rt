@@ -6,6 +6,7 @@ mod liveness;
 mod lookup;
 mod optimum;
 mod print;
+mod replay;
 mod sheets;
 
 fn main() {
@@ -20,4 +21,6 @@ fn main() {
     optimum::one_clock();
     optimum::two_clocks();
     lamp::all();
+    replay::keys();
+    replay::edges();
 }

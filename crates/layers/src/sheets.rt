@@ -2,15 +2,9 @@
 use crate::print;
 use marking::desk;
 use retimer::sheet;
-use retimer::sheet::Checked;
 
 fn check(s: &[u8]) {
-    let checked = sheet::check(s);
-    let Checked::Accepted(counts) = checked else {
-        desk::print_refusal(checked);
-        return;
-    };
-    desk::print_counts(counts);
+    desk::print_checked(sheet::check(s));
 }
 
 // The course sheets, and some of their first bytes.

@@ -1,2 +1,3 @@
 pub mod Following
-pub mod Turns
+pub mod Inputs
+pub mod Keys

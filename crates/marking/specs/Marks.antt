@@ -1,17 +1,21 @@
 -- What marking a list of calls writes, from the model of the box.
 use mathlib.Core.Path.{_≡_}
-use mathlib.Core.Bool.{Bool, true, false}
+use mathlib.Core.Bool.{Bool, true, false, cond, _||_}
 use mathlib.Core.List.{List, [], _∷_, _++_}
-use Prim.Native.Nat.{ℕ, suc, _+_, _/_, _%_, _<_}
-use lib.ListN.{length}
-use Rattle.enforcement.specs.Automaton.{Bytes}
+use Prim.Native.Nat.{ℕ, suc, _+_, _/_, _%_}
+use lib.Dec.{ltb}
+use lib.ListN.{length, take, drop}
+use Rattle.enforcement.specs.Limits.{maxSize}
+use Rattle.enforcement.specs.Automaton.{Bytes, automaton, word}
+use Rattle.enforcement.specs.Loading.{check}
+use Rattle.enforcement.specs.Loading as loading
 use Rattle.enforcement.specs.History.{Call, Outcome, scheduled, held, dropped, played, nothing, lit, dark, refused}
 use Rattle.enforcement.specs.Model.{Compiled}
-use Rattle.enforcement.specs.Monitor.{lampLit, answer, replay}
+use Rattle.enforcement.specs.Monitor.{freshMonitor, lampLit, answer, replay}
 use Rattle.enforcement.specs.Monitor as model
 use Rattle.io.specs.Counts.{Counts}
 use Rattle.report.specs.Texts.{Wrote}
-use Rattle.report.specs.Lines.{outcomeText, callLine, tailLine}
+use Rattle.report.specs.Lines.{sheetLine, refusedLine, outcomeText, callLine, tailLine}
 use Rattle.retimer.specs.declared.limits.Monitor.{Monitor}
 use Rattle.retimer.specs.Optimum.{modelOf}
 use Rattle.retimer.specs.View.{bytesOf, viewOf, Valid}
@@ -51,7 +55,20 @@ pub record MarkRight (b : Monitor) (s : Bytes) (n : ℕ) (before after : List �
   pub valid : Valid (r .monitor)
   pub same-sheet : bytesOf (r .monitor) ≡ bytesOf b
 
--- A turn of the desk program's loop: the box is one, and where more may come calls were made.
-pub record TurnRight (n : ℕ) (b : Monitor) (made : ℕ) (more : Bool) : Type 0 where
-  pub valid : Valid b
-  pub grows : more ≡ true → n < made
+-- ---- The desk program's input and its whole text
+
+-- The sheet's length, in the input's first two bytes; 0 where these are not there, or no sheet is so long.
+abbrev pub sizeIn : Bytes → ℕ
+sizeIn s = cond (ltb (length s) 2 || ltb maxSize (word s 0)) 0 (word s 0)
+
+-- The sheet that the input begins with. Where there are too few bytes for its length or for the sheet it is empty, which is I-1.
+abbrev pub sheetIn : Bytes → Bytes
+sheetIn s = cond (ltb (length s) (2 + sizeIn s)) [] (take (sizeIn s) (drop 2 s))
+
+-- The text of a sheet and calls, by what the check of the sheet answers: its line and, where it loads, the lines of the calls on a fresh box.
+abbrev pub textOf : loading.Checked → Bytes → Bytes → List ℕ
+textOf (loading.accepted k) s calls = sheetLine k ++ blockText (modelOf s) (freshMonitor (automaton s)) 0 calls
+textOf (loading.refused r) s calls = refusedLine r
+
+abbrev pub keyText : Bytes → Bytes → List ℕ
+keyText s calls = textOf (check s) s calls

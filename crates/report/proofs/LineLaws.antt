@@ -7,11 +7,12 @@ use native.Mathlib.Omega.{arith}
 use lib.ListN.{length, length-append}
 use Rattle.enforcement.specs.Reason.{Reason, I-1, I-2, I-3, I-4, I-5, I-6, I-7, I-8, S-1, S-2, S-3, S-4}
 use Rattle.enforcement.specs.Loading.{Counts}
+use Rattle.enforcement.specs.Loading as loading
 use Rattle.enforcement.specs.History.{Outcome, scheduled, held, dropped, played, nothing, lit, dark, refused}
 use Rattle.retimer.specs.declared.monitor.Answer.{Answer}
 use Rattle.retimer.specs.Calls.{outcomeOf}
 use Rattle.report.specs.Texts.{ascii, figure}
-use Rattle.report.specs.Lines.{reasonText, headerText, sheetLine, refusedLine, outcomeText, heldCount, answerText, tailLine}
+use Rattle.report.specs.Lines.{reasonText, headerText, sheetLine, refusedLine, checkedLine, outcomeText, heldCount, answerText, tailLine}
 use Rattle.report.proofs.Numerals.{numeral-few}
 
 pub reason-three : (r : Reason) → length (reasonText r) ≡ 3
@@ -60,10 +61,10 @@ pub tail-few : (n : ℕ) → length (tailLine n) ≤ 26
 tail-few zero = omega arith
 tail-few (suc n) = omega (arith, length-append (figure "tail " (suc n)) (ascii "\n"), numeral-few (suc n))
 
-pub refused-few : (r : Reason) → length (refusedLine r) ≤ 128
+refused-few : (r : Reason) → length (refusedLine r) ≤ 128
 refused-few r = omega (arith, length-append (ascii "sheet refused " ++ reasonText r) (ascii "\n"), length-append (ascii "sheet refused ") (reasonText r), reason-three r)
 
-pub sheet-few : (k : Counts) → length (sheetLine k) ≤ 128
+sheet-few : (k : Counts) → length (sheetLine k) ≤ 128
 sheet-few k =
     omega (
       arith,
@@ -74,3 +75,7 @@ sheet-few k =
       numeral-few (k .transitions),
       numeral-few (k .accepting),
     )
+
+pub checked-few : (c : loading.Checked) → length (checkedLine c) ≤ 128
+checked-few (loading.accepted k) = sheet-few k
+checked-few (loading.refused r) = refused-few r

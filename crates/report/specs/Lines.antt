@@ -4,6 +4,7 @@ use mathlib.Core.List.{List, [], _++_}
 use Prim.Native.Nat.{ℕ, zero, suc}
 use Rattle.enforcement.specs.Reason.{Reason, I-1, I-2, I-3, I-4, I-5, I-6, I-7, I-8, S-1, S-2, S-3, S-4}
 use Rattle.enforcement.specs.Loading.{Counts}
+use Rattle.enforcement.specs.Loading as loading
 use Rattle.enforcement.specs.History.{Outcome, scheduled, held, dropped, played, nothing, lit, dark, refused}
 use Rattle.retimer.specs.declared.monitor.Answer.{Answer}
 use Rattle.retimer.specs.declared.monitor.Answer.the-variants.{Scheduled, Held, Dropped, Played, Nothing, Lit, Dark, Refused}
@@ -33,6 +34,11 @@ sheetLine k = headerText k ++ figure " " (k .transitions) ++ figure " " (k .acce
 
 abbrev pub refusedLine : Reason → List ℕ
 refusedLine r = ascii "sheet refused " ++ reasonText r ++ ascii "\n"
+
+-- The line of what the check of a sheet answers.
+abbrev pub checkedLine : loading.Checked → List ℕ
+checkedLine (loading.accepted k) = sheetLine k
+checkedLine (loading.refused r) = refusedLine r
 
 -- What a call answers, where h actions are held after it. The words "lit" and "dark" are on no line: the desk program prints no line for a lamp call.
 abbrev pub outcomeText : ℕ → Outcome → List ℕ

@@ -4,15 +4,16 @@ use crate::text::put_figure;
 use crate::text::put_number;
 use retimer::monitor::Answer;
 use retimer::reason::Reason;
+use retimer::sheet::Checked;
 use retimer::sheet::Counts;
 ghost use mathlib.Core.Path.{_≡_};
 ghost use mathlib.Core.List.{_++_};
 ghost use Prim.Native.Nat.{_+_, _≤_};
 ghost use lib.ListN.{length};
 ghost use Rattle.retimer.specs.Reasons.{reasonOf};
-ghost use Rattle.retimer.specs.Checked.{figuresOf};
+ghost use Rattle.retimer.specs.Checked.{figuresOf, checkedOf};
 ghost use Rattle.report.specs.Texts.{ascii, numeral, figure, Wrote};
-ghost use Rattle.report.specs.Lines.{reasonText, headerText, sheetLine, refusedLine, answerText, lampText, callLine, tailLine};
+ghost use Rattle.report.specs.Lines.{reasonText, headerText, sheetLine, refusedLine, checkedLine, answerText, lampText, callLine, tailLine};
 
 // Room for a call's line, and for a sheet's.
 pub const LINE: usize = 80;
@@ -58,7 +59,7 @@ fn put_header(out: &mut [u8], at: usize, k: Counts) -> usize
 }
 
 // The first line for a sheet that loads: the header, the transitions and the accepting locations.
-pub fn sheet_line(out: &mut [u8], at: usize, k: Counts) -> usize
+fn sheet_line(out: &mut [u8], at: usize, k: Counts) -> usize
     requires { ⌜ at + 128 ≤ length (now out) ⌝ }
     ensures { λ e. ⌜ Wrote (now (out .entry)) at (sheetLine (figuresOf k)) (now (out .exit)) e ⌝ }
 {
@@ -69,13 +70,24 @@ pub fn sheet_line(out: &mut [u8], at: usize, k: Counts) -> usize
 }
 
 // The only line for a sheet that does not.
-pub fn refused_line(out: &mut [u8], at: usize, r: Reason) -> usize
+fn refused_line(out: &mut [u8], at: usize, r: Reason) -> usize
     requires { ⌜ at + 128 ≤ length (now out) ⌝ }
     ensures { λ e. ⌜ Wrote (now (out .entry)) at (refusedLine (reasonOf r)) (now (out .exit)) e ⌝ }
 {
     let word = put(out, at, b"sheet refused ");
     let reason = put_reason(out, word, r);
     put(out, reason, b"\n")
+}
+
+// The first line, by what the check of the sheet answered.
+pub fn checked_line(out: &mut [u8], at: usize, c: Checked) -> usize
+    requires { ⌜ at + 128 ≤ length (now out) ⌝ }
+    ensures { λ e. ⌜ Wrote (now (out .entry)) at (checkedLine (checkedOf c)) (now (out .exit)) e ⌝ }
+{
+    match c {
+        Checked::Accepted(k) => sheet_line(out, at, k),
+        Checked::Refused(r) => refused_line(out, at, r),
+    }
 }
 
 // A word with a number and an event's date after it.
@@ -88,7 +100,7 @@ fn put_dated(out: &mut [u8], at: usize, word: &[u8], n: u8, date: u32) -> usize
 }
 
 // What a call answered.
-fn put_answer(out: &mut [u8], at: usize, a: Answer) -> usize
+pub fn put_answer(out: &mut [u8], at: usize, a: Answer) -> usize
     requires { ⌜ at + 51 ≤ length (now out) ⌝ }
     ensures { λ e. ⌜ Wrote (now (out .entry)) at (answerText a) (now (out .exit)) e ⌝ }
 {

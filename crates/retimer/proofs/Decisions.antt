@@ -101,7 +101,8 @@ pub record Worked (b : Monitor) (c t start : ℕ) (here cs ds : List ℕ) (p : P
   pub here-is : here ≡ waited (start - b .last) (b .readings)
   pub sized : length cs ≡ maxCount + 1
   pub joined : take (b .held + 1) cs ≡ take (b .held) (b .pending) ++ (c ∷ [])
-  pub planned : PlanRight (bytesOf b) (take (b .held + 1) cs) (b .location) here start ds p
+  pub before : List ℕ
+  pub planned : PlanRight (bytesOf b) (take (b .held + 1) cs) (b .location) here start before ds p
 
 module _ (b : Monitor) (c t start : ℕ) (here cs ds : List ℕ) (p : Planned) (w : Worked b c t start here cs ds p) where
   few : length (take (b .held + 1) cs) ≡ b .held + 1

@@ -7,21 +7,21 @@ use Prim.Native.Nat.{ℕ}
 use native.Mathlib.Omega.{arith}
 use Rattle.enforcement.specs.Automaton.{Bytes, automaton}
 use Rattle.enforcement.specs.Loading.{Loads}
-use Rattle.enforcement.specs.History.{fresh, schedule, Call, offer, lamp, Outcome, dropped, lit, dark, HistoryOf}
+use Rattle.enforcement.specs.History.{fresh, Call, offer, lamp, Outcome, scheduled, held, dropped, played, nothing, lit, dark, refused, HistoryOf}
 use Rattle.enforcement.specs.Monitor.{freshMonitor, answer, lampLit, replay}
 use Rattle.enforcement.specs.Monitor as model
-use Rattle.enforcement.specs.Demands.{StandsFor, Demand3, Demand3All, InTime, calls, lampAfter}
+use Rattle.enforcement.specs.Demands.{StandsFor, ModelDemand3, ModelDemand3All, InTime, calls, lampAfter}
 use Rattle.enforcement.proofs.Loading.{bounded}
 use Rattle.enforcement.proofs.Model.{replay-append, right}
-use Rattle.enforcement.proofs.Promises.{demand-3}
+use Rattle.enforcement.proofs.Promises.{model-demand-3}
 use Rattle.retimer.specs.declared.limits.Monitor.{Monitor}
 use Rattle.retimer.specs.declared.monitor.Answer.{Answer}
 use Rattle.retimer.specs.declared.monitor.Answer.the-variants.{Scheduled, Held, Dropped, Played, Nothing, Lit, Dark, Refused}
 use Rattle.retimer.specs.declared.monitor.Answered.{Answered}
 use Rattle.retimer.specs.Optimum.{modelOf}
-use Rattle.retimer.specs.View.{bytesOf, automatonOf, pendingOf, scheduleOf, viewOf, Valid}
+use Rattle.retimer.specs.View.{bytesOf, automatonOf, viewOf, Valid}
 use Rattle.retimer.specs.Calls.{outcomeOf, answeredOf, CallRight, FreshRight}
-use Rattle.retimer.specs.Demand3.{Made, end, call, outcomesOf, DemandThree, Recorded}
+use Rattle.retimer.specs.Demand3.{Made, end, call, outcomesOf, CodeDemand3, Recorded}
 
 -- ---- The calls on boxes are the model's
 
@@ -57,35 +57,30 @@ made-valid v (call r c m) = made-valid (c .valid) m
 
 -- ---- Which answer an outcome is of
 
-lit-of : (a : Answer) → outcomeOf a ≡ lit → a ≡ Lit
-lit-of (Scheduled n d) e = let z : _≡_ {A = ℕ} 0 1 = cc in absurd (omega arith)
-lit-of (Held n) e = let z : _≡_ {A = ℕ} 0 1 = cc in absurd (omega arith)
-lit-of Dropped e = let z : _≡_ {A = ℕ} 0 1 = cc in absurd (omega arith)
-lit-of (Played c d) e = let z : _≡_ {A = ℕ} 0 1 = cc in absurd (omega arith)
-lit-of Nothing e = let z : _≡_ {A = ℕ} 0 1 = cc in absurd (omega arith)
-lit-of Lit e = refl
-lit-of Dark e = let z : _≡_ {A = ℕ} 0 1 = cc in absurd (omega arith)
-lit-of (Refused q) e = let z : _≡_ {A = ℕ} 0 1 = cc in absurd (omega arith)
+-- The answer of an outcome; a where the outcome leaves out the count that "held" carries, or has a reason.
+abbrev answerFor : Outcome → Answer → Answer
+answerFor (scheduled n d) a = Scheduled n d
+answerFor held a = a
+answerFor dropped a = Dropped
+answerFor (played c d) a = Played c d
+answerFor nothing a = Nothing
+answerFor lit a = Lit
+answerFor dark a = Dark
+answerFor (refused q) a = a
 
-dark-of : (a : Answer) → outcomeOf a ≡ dark → a ≡ Dark
-dark-of (Scheduled n d) e = let z : _≡_ {A = ℕ} 0 1 = cc in absurd (omega arith)
-dark-of (Held n) e = let z : _≡_ {A = ℕ} 0 1 = cc in absurd (omega arith)
-dark-of Dropped e = let z : _≡_ {A = ℕ} 0 1 = cc in absurd (omega arith)
-dark-of (Played c d) e = let z : _≡_ {A = ℕ} 0 1 = cc in absurd (omega arith)
-dark-of Nothing e = let z : _≡_ {A = ℕ} 0 1 = cc in absurd (omega arith)
-dark-of Lit e = let z : _≡_ {A = ℕ} 0 1 = cc in absurd (omega arith)
-dark-of Dark e = refl
-dark-of (Refused q) e = let z : _≡_ {A = ℕ} 0 1 = cc in absurd (omega arith)
+-- An answer is determined by its outcome.
+determined : (a : Answer) → answerFor (outcomeOf a) a ≡ a
+determined (Scheduled n d) = refl
+determined (Held n) = refl
+determined Dropped = refl
+determined (Played c d) = refl
+determined Nothing = refl
+determined Lit = refl
+determined Dark = refl
+determined (Refused q) = refl
 
-dropped-of : (a : Answer) → outcomeOf a ≡ dropped → a ≡ Dropped
-dropped-of (Scheduled n d) e = let z : _≡_ {A = ℕ} 0 1 = cc in absurd (omega arith)
-dropped-of (Held n) e = let z : _≡_ {A = ℕ} 0 1 = cc in absurd (omega arith)
-dropped-of Dropped e = refl
-dropped-of (Played c d) e = let z : _≡_ {A = ℕ} 0 1 = cc in absurd (omega arith)
-dropped-of Nothing e = let z : _≡_ {A = ℕ} 0 1 = cc in absurd (omega arith)
-dropped-of Lit e = let z : _≡_ {A = ℕ} 0 1 = cc in absurd (omega arith)
-dropped-of Dark e = let z : _≡_ {A = ℕ} 0 1 = cc in absurd (omega arith)
-dropped-of (Refused q) e = let z : _≡_ {A = ℕ} 0 1 = cc in absurd (omega arith)
+answer-of : (a : Answer) (o : Outcome) → outcomeOf a ≡ o → a ≡ answerFor o a
+answer-of a o e = sym (determined a) ∙ ap (λ (x : Outcome). answerFor x a) e
 
 -- ---- The lamp
 
@@ -110,32 +105,20 @@ module _ (s : Bytes) (b : Monitor) (sheet : bytesOf b ≡ s) (v : model.Monitor)
       go false f = refl
 
   shows-lit : lampLit (modelOf s) v ≡ true → r .answer ≡ Lit
-  shows-lit e = lit-of (r .answer) (lamp-outcome ∙ ap (λ (x : Bool). cond x lit dark) e)
+  shows-lit e = answer-of (r .answer) lit (lamp-outcome ∙ ap (λ (x : Bool). cond x lit dark) e)
 
   shows-dark : lampLit (modelOf s) v ≡ false → r .answer ≡ Dark
-  shows-dark e = dark-of (r .answer) (lamp-outcome ∙ ap (λ (x : Bool). cond x lit dark) e)
+  shows-dark e = answer-of (r .answer) dark (lamp-outcome ∙ ap (λ (x : Bool). cond x lit dark) e)
 
 -- ---- Demand 3
-
-view-date : (b : Monitor) → b .date ≡ viewOf b .date
-unfolding viewOf
-view-date b = refl
-
-view-pending : (b : Monitor) → pendingOf b ≡ viewOf b .pending
-unfolding viewOf
-view-pending b = refl
-
-view-schedule : (b : Monitor) → scheduleOf b ≡ viewOf b .schedule
-unfolding viewOf
-view-schedule b = refl
 
 module _ (s : Bytes) (b₀ : Monitor) (f : FreshRight s b₀) (ks : List Call) (xs : List Answer) (b : Monitor) (m : Made b₀ ks xs b) where
   loads : Loads s
   loads = subst Loads (f .sheet) (f .valid .sound .loads)
 
-  model-right : (ls : List Call) → Demand3 (automaton s) ls
-  unfolding Demand3All
-  model-right = demand-3 (automaton s) (bounded s loads)
+  model-right : (ls : List Call) → ModelDemand3 (automaton s) ls
+  unfolding ModelDemand3All
+  model-right = model-demand-3 (automaton s) (bounded s loads)
 
   fresh-view : viewOf b₀ ≡ freshMonitor (automaton s)
   fresh-view = subst (λ (x : Bytes). viewOf b₀ ≡ freshMonitor (automaton x)) (f .sheet) (f .is)
@@ -166,18 +149,16 @@ module _ (s : Bytes) (b₀ : Monitor) (f : FreshRight s b₀) (ks : List Call) (
   all-dropped : (r : Answered) → CallRight b lamp r → r .answer ≡ Lit → (more : List Call) (ys : List Answer) (b′ : Monitor) → Made b more ys b′ → (c t : ℕ) → InTime (automaton s) (viewOf b′) c t → (q : Answered) → CallRight b′ (offer c t) q → q .answer ≡ Dropped
   all-dropped r d e more ys b′ n c t i q w =
       let g = after-more more ys b′ n in
-      dropped-of (q .answer)
+      answer-of (q .answer) dropped
       (ap (λ (x : model.Answered). x .outcome) (w .is) ∙ ap₂ (λ (x : Bytes) (v : model.Monitor). answer (modelOf x) v (offer c t) .outcome) (g .1) (g .0)
       ∙ model-right ks .drops (lit-now r d e) more c t (subst (λ (v : model.Monitor). InTime (automaton s) v c t) (g .0) i))
 
-  pub demand-three : DemandThree s ks xs b
-  demand-three = let z = model-right ks in record {
+  pub code-demand-3 : CodeDemand3 s ks xs b
+  code-demand-3 = let z = model-right ks in record {
     history = z .history;
     recorded = subst⁻¹ (λ (os : List Outcome). HistoryOf (automaton s) (fresh (automaton s)) ks os (z .history)) outcomes-are (z .recorded);
     only = λ os h r. (z .only os h r .0 ∙ sym outcomes-are, z .only os h r .1);
-    date-is = view-date b ∙ ap (λ (x : model.Monitor). x .date) monitor-is ∙ z .date-is;
-    pending-is = view-pending b ∙ ap (λ (x : model.Monitor). x .pending) monitor-is ∙ z .pending-is;
-    schedule-is = view-schedule b ∙ ap (λ (x : model.Monitor). x .schedule) monitor-is ∙ z .schedule-is;
+    stands = subst⁻¹ (λ (x : model.Monitor). StandsFor (automaton s) x (z .history)) monitor-is (z .stands);
     lit-is = λ r c. (λ e. z .lit-is .0 (lit-now r c e), λ g. shows-lit s b (now .sheet-is) (calls (automaton s) ks .monitor) monitor-is r c (z .lit-is .1 g));
     dark-is = λ r c. (λ e. z .dark-is .0 (dark-shows s b (now .sheet-is) (calls (automaton s) ks .monitor) monitor-is r c e), λ g. shows-dark s b (now .sheet-is) (calls (automaton s) ks .monitor) monitor-is r c (z .dark-is .1 g));
     rule-is = z .rule-is;

@@ -290,8 +290,8 @@ ticks-most m cs p n e = subst (AtMost (top * length cs)) e (prospect-most m cs p
 
 -- No number of ticks.
 pub plan-none : (s : Bytes) (live cs : List ℕ) (l : ℕ) (r : List ℕ) (t : ℕ) (out : List ℕ) (v : ℕ) → Asked s live cs l r t out → v ≡ encode (prospect (modelOf s) cs (located l r)) → encode extensible ≤ v
-    → PlanRight s cs l r t out (record { value = v; location = l; readings = r })
-plan-none s live cs l r t out v a e h = record { value-is = e; dates-are = λ n f. absurd (none-such n f); reached = λ n f. absurd (none-such n f); standing = a .standing }
+    → PlanRight s cs l r t out out (record { value = v; location = l; readings = r })
+plan-none s live cs l r t out v a e h = record { value-is = e; stays = λ f. (refl, (refl, refl)); dates-are = λ n f. absurd (none-such n f); rest-kept = refl; reached = λ n f. absurd (none-such n f); standing = a .standing }
   where
     none-such : (n : ℕ) → prospect (modelOf s) cs (located l r) ≡ ticks n → ⊥
     none-such n f = omega (arith, e ∙ ap encode f, ticks-most (modelOf s) cs (located l r) n f, a .few)

@@ -10,14 +10,14 @@ use Rattle.enforcement.specs.Automaton.{Bytes, byte, word}
 use Rattle.enforcement.specs.History.{Call, offer, collect, Outcome, nothing}
 use Rattle.retimer.specs.declared.limits.Monitor.{Monitor}
 use Rattle.retimer.specs.declared.monitor.Answer.{Answer}
-use Rattle.retimer.specs.declared.monitor.Answer.the-variants.{Nothing}
+use Rattle.retimer.specs.declared.monitor.Answer.the-variants.{Held, Nothing}
 use Rattle.retimer.specs.declared.monitor.Answered.{Answered}
 use Rattle.retimer.specs.declared.sheet.Checked.{Checked}
-use Rattle.retimer.specs.View.{Valid}
+use Rattle.retimer.specs.View.{viewOf, Valid}
 use Rattle.retimer.specs.Calls.{outcomeOf, CallRight, FreshRight}
-use Rattle.retimer.specs.Demand3.{Made, end, outcomesOf, DemandThree}
+use Rattle.retimer.specs.Demand3.{Made, end, outcomesOf, CodeDemand3}
 use Rattle.retimer.specs.Replay.{dateAt, callAt, callsFrom, callsOf, lastOutcome, Followed}
-use Rattle.retimer.proofs.Demand3.{made-one-more, made-valid, demand-three}
+use Rattle.retimer.proofs.Demand3.{made-one-more, made-valid, code-demand-3}
 
 -- ---- One call
 
@@ -46,12 +46,13 @@ pub record Replaying (b₀ : Monitor) (s : Bytes) (i : ℕ) (b : Monitor) (a : A
   pub answers : List Answer
   pub made : Made b₀ (callsFrom s (i / 5) 0) answers b
   pub last-is : outcomeOf a ≡ lastOutcome nothing (outcomesOf answers)
+  pub held-count : (n : ℕ) → a ≡ Held n → n ≡ length (viewOf b .pending)
   pub whole : i % 5 ≡ 0
   pub inside : i ≤ length s
 
 pub replaying-none : (b₀ : Monitor) (s : Bytes) → Replaying b₀ s 0 b₀ Nothing
 unfolding callsFrom
-replaying-none b₀ s = record { answers = []; made = end; last-is = refl; whole = refl; inside = omega arith }
+replaying-none b₀ s = record { answers = []; made = end; last-is = refl; held-count = λ n e. let z : _≡_ {A = ℕ} 0 1 = cc in absurd (omega arith); whole = refl; inside = omega arith }
 
 pub replaying-one : (b₀ : Monitor) (s : Bytes) (i : ℕ) (b : Monitor) (a : Answer) (r : Answered) → Replaying b₀ s i b a → i + 5 ≤ length s → CallRight b (callAt s i) r → Replaying b₀ s (i + 5) (r .monitor) (r .answer)
 replaying-one b₀ s i b a r p h c =
@@ -62,6 +63,7 @@ replaying-one b₀ s i b a r p h c =
       answers = p .answers ++ (r .answer ∷ []);
       made = subst (λ (ks : List Call). Made b₀ ks (p .answers ++ (r .answer ∷ [])) (r .monitor)) (sym e) (made-one-more r c (p .made));
       last-is = sym (ap (lastOutcome nothing) (map-append outcomeOf (p .answers) (r .answer ∷ [])) ∙ last-one-more nothing (outcomeOf (r .answer)) (outcomesOf (p .answers)));
+      held-count = c .held-count;
       whole = omega (arith, p .whole);
       inside = h;
     }
@@ -69,19 +71,18 @@ replaying-one b₀ s i b a r p h c =
 pub replaying-valid : (b₀ : Monitor) (s : Bytes) (i : ℕ) (b : Monitor) (a : Answer) → Valid b₀ → Replaying b₀ s i b a → Valid b
 replaying-valid b₀ s i b a v p = made-valid v (p .made)
 
-pub replaying-all : (sheet : Bytes) (b₀ : Monitor) (s : Bytes) (i : ℕ) (b : Monitor) (a : Answer) (k : Checked) → FreshRight sheet b₀ → Replaying b₀ s i b a → length s < i + 5 → Followed sheet (callsOf s) nothing (record { checked = k; monitor = b; answer = a }) × Valid b
+pub replaying-all : (sheet : Bytes) (b₀ : Monitor) (s : Bytes) (i : ℕ) (b : Monitor) (a : Answer) (k : Checked) → FreshRight sheet b₀ → Replaying b₀ s i b a → length s < i + 5 → Followed sheet (callsOf s) (record { checked = k; monitor = b; answer = a })
 replaying-all sheet b₀ s i b a k f p h =
     let n : i / 5 ≡ length s / 5 = omega (arith, p .whole, p .inside) in
     let m : Made b₀ (callsOf s) (p .answers) b = rw n at (p .made) in
-    let d : DemandThree sheet (callsOf s) (p .answers) b = demand-three sheet b₀ f (callsOf s) (p .answers) b m in
-    let followed : Followed sheet (callsOf s) nothing (record { checked = k; monitor = b; answer = a }) = record {
+    let d : CodeDemand3 sheet (callsOf s) (p .answers) b = code-demand-3 sheet b₀ f (callsOf s) (p .answers) b m in
+    record {
       outcomes = outcomesOf (p .answers);
       history = d .history;
       recorded = d .recorded;
       answer-is = p .last-is;
-      date-is = d .date-is;
-      pending-is = d .pending-is;
-      schedule-is = d .schedule-is;
+      held-count = λ h e. p .held-count h e ∙ ap length (d .stands .pending-is);
+      stands = d .stands;
       sheet-is = d .sheet-is;
-    } in
-    (followed, d .valid)
+      valid = d .valid;
+    }

@@ -3,7 +3,6 @@
 use mathlib.Core.Path.{_≡_, refl, ap, ap₂, sym, _∙_}
 use mathlib.Core.Bool.{Bool, true, false, _&&_, _||_, not}
 use mathlib.Core.List.{List, [], _∷_, _++_}
-use mathlib.Core.Logic.{_⊎_, inl, inr}
 use Prim.Native.Nat.{ℕ, zero, suc, _+_, _-_, _*_, _/_, _%_, _^_, _≤_, _<_}
 use native.Mathlib.Omega.{arith}
 use native.Mathlib.Nat.{mod-eq-of-lt, add-zero, zero-add, one-mul}
@@ -16,15 +15,12 @@ use borrow.Author.Tests.{eq-eqb, ne-eqb, le-leb, lt-leb, not-true, not-false}
 use Rattle.enforcement.specs.Limits.{maxCount, maxBound, maxTransitions, maxSize}
 use Rattle.enforcement.specs.Automaton.{Bytes, word, locations, clocks, actions, offset, size, Transition, transitionAt, transitionsFrom, transitions, transitionsOver, allTransitions}
 use Rattle.enforcement.specs.Reason.{Reason}
-use Rattle.enforcement.specs.Loading.{Layout, endBefore, Loads, accepted, refused, sizePasses, headerPasses, layoutPasses, pairsPass, boundsPass, fits, allFit, overlap, overlapsNone, disjoint, disjointOver, unless, countsOf, check}
+use Rattle.enforcement.specs.Loading.{Layout, endBefore, refused, sizePasses, headerPasses, layoutPasses, pairsPass, boundsPass, fits, allFit, overlap, overlapsNone, disjoint, disjointOver, unless, countsOf}
 use Rattle.enforcement.specs.Loading as loading
 use Rattle.enforcement.proofs.Tests.{Tests, leb-tests, both-tests}
 use Rattle.enforcement.proofs.Pairs.{layout-tests, transitions-known, transitions-length}
-use Rattle.enforcement.proofs.Loading.{check-right}
-use Rattle.retimer.specs.declared.sheet.Counts.{Counts}
 use Rattle.retimer.specs.declared.sheet.Checked.{Checked}
-use Rattle.retimer.specs.declared.sheet.Checked.the-variants.{Accepted}
-use Rattle.retimer.specs.Checked.{Headed, LaidOut, figuresOf, checkedOf}
+use Rattle.retimer.specs.Checked.{Headed, LaidOut, figuresOf}
 
 -- ---- Tests in a row
 
@@ -219,18 +215,7 @@ pairs-end s m l e h = let z : m - l ≡ 0 = omega arith in rw z
 pub disjoint-known : (s : Bytes) (l p z : ℕ) → l < locations s → p ≡ offset s l → z ≡ size s l → disjoint (transitions s l) ≡ disjoint (transitionsFrom s (z / 7) p)
 disjoint-known s l p z h e f = rw (e, f) (ap disjoint (transitions-known s l h))
 
--- ---- The figures, and what an accepted sheet gives
+-- ---- The figures
 
 pub figures-are : (s : Bytes) (n w : ℕ) → n ≡ length (allTransitions s) → w ≡ word s 4 → figuresOf (record { locations = locations s; clocks = clocks s; actions = actions s; transitions = n; accepting = ones w }) ≡ countsOf s
 figures-are s n w e f = rw (e, f)
-
--- A sheet whose counts were answered loads.
-pub accepted-loads : (s : Bytes) (v : Checked) (k : Counts) → checkedOf v ≡ check s → v ≡ Accepted k → Loads s
-accepted-loads s v k e f = go (check-right s .one-of)
-  where
-    is : check s ≡ accepted (figuresOf k)
-    is = sym e ∙ ap checkedOf f
-
-    go : (check s ≡ accepted (countsOf s)) ⊎ ((r : Reason) × (check s ≡ refused r)) → Loads s
-    go (inl h) = check-right s .accepts .0 h
-    go (inr h) = let d = h .1 in let z : _≡_ {A = ℕ} 0 1 = cc in absurd (omega arith)

@@ -113,11 +113,12 @@ placed-none s c l r p e m h = record { nowhere = λ z. exhausted m h; somewhere 
 -- ---- The step
 
 pub stepped-none : (s : Bytes) (c l : ℕ) (r : List ℕ) (p : ℕ) → Standing s l r → Placed s c l r p → p ≡ 0 → StepRight s c l r (record { found = false; location = l; readings = r })
-stepped-none s c l r p k h e = record { is = sym (h .nowhere e); standing = k }
+stepped-none s c l r p k h e = record { is = sym (h .nowhere e); stays = λ z. (refl, refl); standing = k }
 
 pub stepped-some : (s : Bytes) (c l : ℕ) (r : List ℕ) (p : ℕ) (v : List ℕ) → Standing s l r → Taken s c l r p → v ≡ resetBy (byte s (p + 2)) r → StepRight s c l r (record { found = true; location = byte s (p + 1); readings = v })
 stepped-some s c l r p v k h e =
     record {
       is = ap (λ (w : List ℕ). some (located (byte s (p + 1)) w)) e ∙ ap some (located-reset (transitionAt s p) l r) ∙ sym (h .is);
+      stays = λ f. let z : _≡_ {A = ℕ} 0 1 = cc in absurd (omega arith);
       standing = rw e (standing-fired s l r (transitionAt s p) (h .fits) k);
     }

@@ -9,7 +9,7 @@ use native.Mathlib.Omega.{arith}
 use native.Mathlib.Numerals.{add-one}
 use lib.Dec.{leb, eqb}
 use lib.ListN.{length, getD, drop, take, set, drop-of-length-le}
-use lib.Seq.{take-suc-set}
+use lib.Seq.{take-suc-set, drop-set-lt}
 use borrow.Author.Tests.{eqb-true, eqb-false, le-leb}
 use Rattle.enforcement.specs.Automaton.{Bytes}
 use Rattle.enforcement.specs.TimedWord.{Configuration}
@@ -21,7 +21,7 @@ use Rattle.retimer.specs.declared.lookup.Stepped.{Stepped}
 use Rattle.retimer.specs.declared.optimum.Reached.{Reached}
 use Rattle.retimer.specs.Readings.{Readings, waited, located, Standing}
 use Rattle.retimer.specs.Steps.{StepRight}
-use Rattle.retimer.specs.Optimum.{encode, modelOf}
+use Rattle.retimer.specs.Optimum.{encode, modelOf, PlanRight}
 use Rattle.retimer.specs.Search.{leftAt, playedNow, Written}
 use Rattle.retimer.proofs.Valuations.{located-waited}
 use Rattle.retimer.proofs.Prospects.{left-some, stepped-some, stepped-found, played-some}
@@ -185,6 +185,7 @@ module _ (s : Bytes) (cs : List ℕ) (k l : ℕ) (r : List ℕ) where
       let none-left : drop k cs ≡ [] = drop-of-length-le cs {i = k} (omega arith) in
       record {
         dates-are = rw (none-left, dates-nil (modelOf s) here t, append-nil, e);
+        rest-kept = refl;
         reached = rw none-left;
         standing = h;
       }
@@ -213,6 +214,7 @@ module _ (s : Bytes) (cs : List ℕ) (k l : ℕ) (r : List ℕ) where
       written-played before out q room w =
           record {
             dates-are = w .dates-are ∙ rw (add-one, take-suc-set before k t room, append-assoc, ← add-one, dates-here);
+            rest-kept = w .rest-kept ∙ drop-set-lt (length cs) before k t some-left;
             reached = w .reached ∙ sym (rw (dates-here, is-some) (walk-played (modelOf s .step) (getD cs k 0) (drop (k + 1) cs) (dates (modelOf s) (drop (k + 1) cs) (located (v .location) (v .readings)) t) here (located (v .location) (v .readings)) t (saturated-at l h) found));
             standing = w .standing;
           }
@@ -241,6 +243,12 @@ module _ (s : Bytes) (cs : List ℕ) (k l : ℕ) (r : List ℕ) where
       written-waited t before out q z =
           record {
             dates-are = z .dates-are ∙ ap (λ (ds : List ℕ). take k before ++ ds) (dates-late t);
+            rest-kept = z .rest-kept;
             reached = z .reached ∙ walk-late t ∙ ap (λ (ds : List ℕ). walk (modelOf s .step) (drop k cs) ds t here) (dates-late t);
             standing = z .standing;
           }
+
+-- The dates of all the actions are the plan.
+pub plan-some : (s : Bytes) (cs : List ℕ) (l : ℕ) (r : List ℕ) (t : ℕ) (before out : List ℕ) (v : ℕ) (q : Reached) → prospect (modelOf s) cs (located l r) ≡ ticks v → Written s cs 0 l r t before out q
+    → PlanRight s cs l r t before out (record { value = v; location = q .location; readings = q .readings })
+plan-some s cs l r t before out v q least w = record { value-is = sym (ap encode least); stays = λ f. absurd (f v least); dates-are = λ n e. w .dates-are; rest-kept = w .rest-kept; reached = λ n e. w .reached; standing = w .standing }

@@ -3,11 +3,12 @@ use mathlib.Core.Path.{_≡_}
 use mathlib.Core.List.{List, _∷_, [], _++_}
 use Prim.Native.Nat.{ℕ, _+_, _-_, _≤_}
 use lib.Dec.{ltb}
-use lib.ListN.{length, take, getD}
-use Rattle.enforcement.specs.Limits.{maxScheduled, maxDate}
+use lib.ListN.{length, take, getD, replicate}
+use Rattle.enforcement.specs.Limits.{maxSize, maxCount, maxScheduled, maxDate}
 use Rattle.enforcement.specs.Automaton.{Bytes}
 use Rattle.enforcement.specs.Loading.{Loads, check}
 use Rattle.enforcement.specs.History.{History, Call, actionsOf, Outcome, scheduled, held, dropped, played, nothing, lit, dark, refused}
+use Rattle.enforcement.specs.Model.{area}
 use Rattle.enforcement.specs.Monitor as model
 use Rattle.enforcement.specs.Monitor.{answer, freshMonitor, placed, earliest, standing, joins, walk}
 use Rattle.enforcement.specs.Demands.{StandsFor, Demand2}
@@ -85,7 +86,12 @@ pub record FreshRight (s : Bytes) (b : Monitor) : Type 0 where
   pub sheet : bytesOf b ≡ s
   pub valid : Valid b
 
--- What a load promises: the check's answer; where that accepts the sheet, a fresh box. After a refusal no promise speaks of what stands in the box's place.
+-- What stands in the box's place where there is none: no sheet, and zeros throughout.
+unfoldable pub noMonitor : Monitor
+noMonitor = record { bytes = replicate maxSize 0; size = 0; live = replicate area 0; date = 0; pending = replicate maxCount 0; held = 0; schedule = replicate maxScheduled (record { action = 0; date = 0 }); planned = 0; location = 0; readings = 0 ∷ 0 ∷ []; last = 0 }
+
+-- What a load promises: the check's answer; where that accepts the sheet, a fresh box; where it does not, no box.
 pub record LoadRight (s : Bytes) (r : Loaded) : Type 0 where
   pub checked : checkedOf (r .checked) ≡ check s
   pub fresh : Loads s → FreshRight s (r .monitor)
+  pub no-box : (Loads s → ⊥) → r .monitor ≡ noMonitor

@@ -4,14 +4,14 @@ use mathlib.Core.List.{List, [], _∷_, map}
 use mathlib.Core.Logic.{_↔_}
 use Prim.Native.Nat.{ℕ}
 use Rattle.enforcement.specs.Automaton.{Bytes, automaton}
-use Rattle.enforcement.specs.History.{History, fresh, schedule, Call, offer, lamp, Outcome, HistoryOf, Schedulable}
+use Rattle.enforcement.specs.History.{History, fresh, Call, offer, lamp, Outcome, HistoryOf, Schedulable}
 use Rattle.enforcement.specs.History as reference
 use Rattle.enforcement.specs.Demands.{StandsFor, InTime}
 use Rattle.retimer.specs.declared.limits.Monitor.{Monitor}
 use Rattle.retimer.specs.declared.monitor.Answer.{Answer}
 use Rattle.retimer.specs.declared.monitor.Answer.the-variants.{Dropped, Lit, Dark}
 use Rattle.retimer.specs.declared.monitor.Answered.{Answered}
-use Rattle.retimer.specs.View.{bytesOf, automatonOf, pendingOf, scheduleOf, viewOf, Valid}
+use Rattle.retimer.specs.View.{bytesOf, automatonOf, viewOf, Valid}
 use Rattle.retimer.specs.Calls.{outcomeOf, CallRight}
 
 -- A list of calls, each on the box that the one before handed back; their answers, and the last box.
@@ -23,16 +23,14 @@ abbrev pub outcomesOf : List Answer → List Outcome
 outcomesOf xs = map outcomeOf xs
 
 -- Of the calls ks on a fresh box of the sheet s, which answered xs and left the box b. The outcomes are those of the calls' history, which is the only one, and
--- the box has its date, pending actions and schedule. A lamp call on b answers "lit" exactly when no run of further offers could get one more action
+-- the box stands for it: it has its date, pending actions and schedule, and the configuration and date last reached. A lamp call on b answers "lit" exactly when no run of further offers could get one more action
 -- scheduled, else "dark", which is document 01's rule. Once lit, the lamp is lit after every longer list, and there every offer that is not refused for its
 -- action or date is dropped.
-pub record DemandThree (s : Bytes) (ks : List Call) (xs : List Answer) (b : Monitor) : Type 0 where
+pub record CodeDemand3 (s : Bytes) (ks : List Call) (xs : List Answer) (b : Monitor) : Type 0 where
   pub history : History
   pub recorded : HistoryOf (automaton s) (fresh (automaton s)) ks (outcomesOf xs) history
   pub only : (os : List Outcome) (h : History) → HistoryOf (automaton s) (fresh (automaton s)) ks os h → (os ≡ outcomesOf xs) × (h ≡ history)
-  pub date-is : b .date ≡ history .date
-  pub pending-is : pendingOf b ≡ history .pending
-  pub schedule-is : scheduleOf b ≡ schedule history
+  pub stands : StandsFor (automaton s) (viewOf b) history
   pub lit-is : (r : Answered) → CallRight b lamp r → (r .answer ≡ Lit) ↔ (Schedulable (automaton s) history → ⊥)
   pub dark-is : (r : Answered) → CallRight b lamp r → (r .answer ≡ Dark) ↔ Schedulable (automaton s) history
   pub rule-is : reference.Dark (automaton s) history ↔ Schedulable (automaton s) history

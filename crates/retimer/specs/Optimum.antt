@@ -2,7 +2,7 @@
 use mathlib.Core.Path.{_≡_}
 use mathlib.Core.List.{List}
 use Prim.Native.Nat.{ℕ, _+_, _≤_}
-use lib.ListN.{length, take}
+use lib.ListN.{length, take, drop}
 use Rattle.enforcement.specs.Limits.{maxCount, maxDate}
 use Rattle.enforcement.specs.Automaton.{Bytes, automaton}
 use Rattle.enforcement.specs.Loading.{Loads}
@@ -32,10 +32,13 @@ pub record Asked (s : Bytes) (live cs : List ℕ) (l : ℕ) (r : List ℕ) (t : 
   pub early : t ≤ maxDate
   pub room : length out ≡ maxCount + 1
 
--- The prospect of the actions; where it is a number of ticks, their dates stand in out, and the configuration after them is reached.
-pub record PlanRight (s : Bytes) (cs : List ℕ) (l : ℕ) (r : List ℕ) (t : ℕ) (out : List ℕ) (v : Planned) : Type 0 where
+-- The prospect of the actions; where it is a number of ticks, their dates stand in out, the rest of it is as before, and the configuration after them is
+-- reached; where it is not, the configuration and out are as they were.
+pub record PlanRight (s : Bytes) (cs : List ℕ) (l : ℕ) (r : List ℕ) (t : ℕ) (before out : List ℕ) (v : Planned) : Type 0 where
   pub value-is : v .value ≡ encode (prospect (modelOf s) cs (located l r))
+  pub stays : ((n : ℕ) → prospect (modelOf s) cs (located l r) ≡ ticks n → ⊥) → (v .location ≡ l) × ((v .readings ≡ r) × (out ≡ before))
   pub dates-are : (n : ℕ) → prospect (modelOf s) cs (located l r) ≡ ticks n → take (length cs) out ≡ dates (modelOf s) cs (located l r) t
+  pub rest-kept : drop (length cs) out ≡ drop (length cs) before
   pub reached : (n : ℕ) → prospect (modelOf s) cs (located l r) ≡ ticks n → located (v .location) (v .readings) ≡ walk (modelOf s .step) cs (dates (modelOf s) cs (located l r) t) t (located l r)
   pub standing : Standing s (v .location) (v .readings)
 

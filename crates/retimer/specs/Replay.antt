@@ -6,10 +6,14 @@ use Prim.Native.Nat.{ℕ, zero, suc, _+_, _*_, _/_}
 use lib.Dec.{eqb}
 use lib.ListN.{length}
 use Rattle.enforcement.specs.Automaton.{Bytes, byte, automaton}
-use Rattle.enforcement.specs.History.{History, fresh, schedule, HistoryOf, Call, offer, collect, Outcome}
+use Rattle.enforcement.specs.History.{History, fresh, HistoryOf, Call, offer, collect, Outcome, nothing}
+use Rattle.enforcement.specs.Loading.{Loads, check}
+use Rattle.enforcement.specs.Demands.{StandsFor}
+use Rattle.retimer.specs.declared.monitor.Answer.the-variants.{Held, Nothing}
 use Rattle.retimer.specs.declared.replay.Replayed.{Replayed}
-use Rattle.retimer.specs.View.{pendingOf, scheduleOf, bytesOf}
-use Rattle.retimer.specs.Calls.{outcomeOf}
+use Rattle.retimer.specs.Checked.{checkedOf}
+use Rattle.retimer.specs.View.{bytesOf, viewOf, Valid}
+use Rattle.retimer.specs.Calls.{outcomeOf, noMonitor}
 
 -- A date in four bytes, low byte first.
 abbrev pub dateAt : Bytes → ℕ → ℕ
@@ -32,13 +36,20 @@ abbrev pub lastOutcome : Outcome → List Outcome → Outcome
 lastOutcome o [] = o
 lastOutcome o (p ∷ os) = lastOutcome p os
 
--- The history of the calls from a fresh box: its outcomes end in the answer, and its date, pending actions and schedule are the box's.
-pub record Followed (s : Bytes) (ks : List Call) (start : Outcome) (r : Replayed) : Type 0 where
+-- The history of the calls from a fresh box of the sheet: its outcomes end in the answer ("none" where there was no call), "held" has the held list's own
+-- length, and the box is one of the sheet that stands for the history.
+pub record Followed (s : Bytes) (ks : List Call) (r : Replayed) : Type 0 where
   pub outcomes : List Outcome
   pub history : History
   pub recorded : HistoryOf (automaton s) (fresh (automaton s)) ks outcomes history
-  pub answer-is : outcomeOf (r .answer) ≡ lastOutcome start outcomes
-  pub date-is : r .monitor .date ≡ history .date
-  pub pending-is : pendingOf (r .monitor) ≡ history .pending
-  pub schedule-is : scheduleOf (r .monitor) ≡ schedule history
+  pub answer-is : outcomeOf (r .answer) ≡ lastOutcome nothing outcomes
+  pub held-count : (n : ℕ) → r .answer ≡ Held n → n ≡ length (history .pending)
+  pub stands : StandsFor (automaton s) (viewOf (r .monitor)) history
   pub sheet-is : bytesOf (r .monitor) ≡ s
+  pub valid : Valid (r .monitor)
+
+-- What replaying promises: the check's answer; where that accepts the sheet, the calls were followed; where it does not, there is no box, and no call was made.
+pub record ReplayRight (s calls : Bytes) (r : Replayed) : Type 0 where
+  pub checked : checkedOf (r .checked) ≡ check s
+  pub followed : Loads s → Followed s (callsOf calls) r
+  pub no-box : (Loads s → ⊥) → (r .monitor ≡ noMonitor) × (r .answer ≡ Nothing)

@@ -78,8 +78,9 @@ pub record Reading (s : Bytes) (live cs : List ℕ) (k l : ℕ) (r : List ℕ) (
   pub early : t + v ≤ maxDate + (maxCount + 1) * top
   pub room : length cs ≤ length out
 
--- The dates of the actions from k on stand in out behind those before, and the configuration after them is reached.
+-- The dates of the actions from k on stand in out behind those before, the rest of it is as before, and the configuration after them is reached.
 pub record Written (s : Bytes) (cs : List ℕ) (k l : ℕ) (r : List ℕ) (t : ℕ) (before out : List ℕ) (q : Reached) : Type 0 where
   pub dates-are : take (length cs) out ≡ take k before ++ dates (modelOf s) (drop k cs) (located l r) t
+  pub rest-kept : drop (length cs) out ≡ drop (length cs) before
   pub reached : located (q .location) (q .readings) ≡ walk (modelOf s .step) (drop k cs) (dates (modelOf s) (drop k cs) (located l r) t) t (located l r)
   pub standing : Standing s (q .location) (q .readings)

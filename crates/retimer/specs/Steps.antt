@@ -20,8 +20,10 @@ optional false q = none
 abbrev pub steppedOf : Stepped → Option Configuration
 steppedOf v = optional (v .found) (located (v .location) (v .readings))
 
+-- The step is the automaton's; where there is none, the configuration is the one that was left.
 pub record StepRight (s : Bytes) (c l : ℕ) (r : List ℕ) (v : Stepped) : Type 0 where
   pub is : steppedOf v ≡ step (automaton s) c (located l r)
+  pub stays : v .found ≡ false → (v .location ≡ l) × (v .readings ≡ r)
   pub standing : Standing s (v .location) (v .readings)
 
 -- The transition at a place is for the action, and the readings enable it.

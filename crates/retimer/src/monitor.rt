@@ -21,7 +21,7 @@ ghost use Rattle.enforcement.specs.History.{offer, collect, lamp, nothing};
 ghost use Rattle.enforcement.specs.Monitor.{kept, dated, checked, oldest};
 ghost use Rattle.retimer.specs.Optimum.{modelOf};
 ghost use Rattle.retimer.specs.View.{bytesOf, viewOf, Sound, Valid};
-ghost use Rattle.retimer.specs.Calls.{refusal, Done, PlaceAsked, placedOf, CallRight, FreshRight, LoadRight};
+ghost use Rattle.retimer.specs.Calls.{refusal, Done, PlaceAsked, placedOf, CallRight, FreshRight, noMonitor, LoadRight};
 
 // What a call answers.
 pub enum Answer {
@@ -40,7 +40,7 @@ pub struct Answered {
     pub answer: Answer,
 }
 
-// The check's answer, with a box beside it. After a refusal what stands in the box's place is no box.
+// The check's answer, with a box beside it. After a refusal `Monitor::nothing` stands in the box's place.
 pub struct Loaded {
     pub monitor: Monitor,
     pub checked: Checked,
@@ -81,8 +81,10 @@ impl Monitor {
         }
     }
 
-    // What stands in the box's place after a refused load: no sheet at all.
-    fn nothing() -> Monitor {
+    // What stands in the box's place after a refused load: no sheet, and zeros throughout.
+    fn nothing() -> Monitor
+        ensures { λ r. ⌜ r ≡ noMonitor ⌝ }
+    {
         Monitor {
             bytes: [0u8; Monitor::SIZE],
             size: 0,
@@ -98,7 +100,7 @@ impl Monitor {
         }
     }
 
-    // Any bytes: the check's answer, and a fresh box where it accepts them.
+    // Any bytes: the check's answer, and a fresh box where it accepts them; else no box.
     pub fn load(s: &[u8]) -> Loaded
         ensures { λ r. ⌜ LoadRight (now (s .entry)) r ⌝ }
     {

@@ -23,7 +23,7 @@ pub const EXTENSIBLE: u16 = 60_000;
 
 pub const DEAD: u16 = 65_000;
 
-// What a list of actions comes to, and the configuration after them.
+// What a list of actions comes to, and the configuration after them; the one before them where it comes to no number of ticks.
 pub struct Planned {
     pub value: u16,
     pub location: u8,
@@ -199,7 +199,7 @@ fn solve(
     memo: &mut [u16],
 ) -> Planned
     requires { ⌜ (Asked (now s) (now live) (now cs) l r t (now out)) × (Searching (now s) (now live) (now cs) 0 l r (now memo)) ⌝ }
-    ensures { λ v. ⌜ PlanRight (now (s .entry)) (now (cs .entry)) l r t (now (out .exit)) v ⌝ }
+    ensures { λ v. ⌜ PlanRight (now (s .entry)) (now (cs .entry)) l r t (now (out .entry)) (now (out .exit)) v ⌝ }
 {
     let v = best(s, live, cs, 0, l, r, memo);
     if EXTENSIBLE <= v {
@@ -229,7 +229,7 @@ fn plan_one_action(
     out: &mut [u32],
 ) -> Planned
     requires { ⌜ (Asked (now s) (now live) (now cs) l r t (now out)) × (length (now cs) ≡ 1) ⌝ }
-    ensures { λ v. ⌜ PlanRight (now (s .entry)) (now (cs .entry)) l r t (now (out .exit)) v ⌝ }
+    ensures { λ v. ⌜ PlanRight (now (s .entry)) (now (cs .entry)) l r t (now (out .entry)) (now (out .exit)) v ⌝ }
 {
     let mut memo = [0u16; 1];
     solve(s, live, cs, l, r, t, out, &mut memo)
@@ -246,7 +246,7 @@ fn plan_one_clock(
     out: &mut [u32],
 ) -> Planned
     requires { ⌜ (Asked (now s) (now live) (now cs) l r t (now out)) × (clocks (now s) ≡ 1) ⌝ }
-    ensures { λ v. ⌜ PlanRight (now (s .entry)) (now (cs .entry)) l r t (now (out .exit)) v ⌝ }
+    ensures { λ v. ⌜ PlanRight (now (s .entry)) (now (cs .entry)) l r t (now (out .entry)) (now (out .exit)) v ⌝ }
 {
     let mut memo = [0u16; Monitor::COUNT * Monitor::COUNT * Monitor::WIDTH];
     solve(s, live, cs, l, r, t, out, &mut memo)
@@ -263,13 +263,13 @@ fn plan_two_clocks(
     out: &mut [u32],
 ) -> Planned
     requires { ⌜ Asked (now s) (now live) (now cs) l r t (now out) ⌝ }
-    ensures { λ v. ⌜ PlanRight (now (s .entry)) (now (cs .entry)) l r t (now (out .exit)) v ⌝ }
+    ensures { λ v. ⌜ PlanRight (now (s .entry)) (now (cs .entry)) l r t (now (out .entry)) (now (out .exit)) v ⌝ }
 {
     let mut memo = [0u16; Monitor::COUNT * Monitor::COUNT * Monitor::VALUATIONS];
     solve(s, live, cs, l, r, t, out, &mut memo)
 }
 
-// The prospect of the actions and, where it is a number of ticks, their dates from t on.
+// The prospect of the actions and, where it is a number of ticks, their dates from t on; else out is left as it is.
 pub fn plan<'a>(
     s: &'a [u8],
     live: &'a [u16],
@@ -280,7 +280,7 @@ pub fn plan<'a>(
     out: &mut [u32],
 ) -> Planned
     requires { ⌜ Asked (now s) (now live) (now cs) l r t (now out) ⌝ }
-    ensures { λ v. ⌜ PlanRight (now (s .entry)) (now (cs .entry)) l r t (now (out .exit)) v ⌝ }
+    ensures { λ v. ⌜ PlanRight (now (s .entry)) (now (cs .entry)) l r t (now (out .entry)) (now (out .exit)) v ⌝ }
 {
     if cs.len() == 1 {
         return plan_one_action(s, live, cs, l, r, t, out);

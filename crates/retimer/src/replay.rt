@@ -7,14 +7,11 @@ use crate::sheet::Checked;
 ghost use mathlib.Core.Path.{_≡_};
 ghost use Prim.Native.Nat.{_+_, _≤_};
 ghost use lib.ListN.{length};
-ghost use Rattle.enforcement.specs.Loading.{Loads, check};
-ghost use Rattle.enforcement.specs.History.{nothing};
-ghost use Rattle.retimer.specs.Checked.{checkedOf};
 ghost use Rattle.retimer.specs.View.{Valid};
 ghost use Rattle.retimer.specs.Calls.{CallRight};
-ghost use Rattle.retimer.specs.Replay.{dateAt, callAt, callsOf, Followed};
+ghost use Rattle.retimer.specs.Replay.{dateAt, callAt, ReplayRight};
 
-// The check's answer, the last box, and the last answer; "none" where there was no call. After a refusal there is no box.
+// The check's answer, the last box, and the last answer; "none" where there was no call. After a refused sheet there is no box.
 pub struct Replayed {
     pub checked: Checked,
     pub monitor: Monitor,
@@ -46,7 +43,7 @@ pub fn call_at(b: Monitor, s: &[u8], i: usize) -> Answered
 
 // The calls of a list of bytes, from a fresh box of a sheet.
 pub fn replay(s: &[u8], calls: &[u8]) -> Replayed
-    ensures { λ r. ⌜ (checkedOf (r .checked) ≡ check (now (s .entry))) × (Loads (now (s .entry)) → (Followed (now (s .entry)) (callsOf (now (calls .entry))) nothing r) × (Valid (r .monitor))) ⌝ }
+    ensures { λ r. ⌜ ReplayRight (now (s .entry)) (now (calls .entry)) r ⌝ }
 {
     let loaded = Monitor::load(s);
     let checked = loaded.checked;

@@ -1,8 +1,8 @@
--- `desk::mark_calls` meets its contract: the number of calls rises with each full block.
+-- `desk::mark_calls` meets its contract: the number of calls rises with each block that is full.
 -- Assumes nothing.
 use Prim.Native.Nat.{_-_}
 use native.Mathlib.Omega.{arith}
-use borrow.Author.Tests.{not-false}
+use borrow.Author.Needs.{needs}
 use Rattle.retimer.specs.View.{Valid}
 use Rattle.marking.proofs.desk.mark_calls.Statement.{statement}
 use Rattle.marking.proofs.desk.mark_calls.Tie as tie
@@ -16,20 +16,47 @@ abbrev μ-loop : tie.MeasureT-loop
 loop-holds : tie.Need-loop-holds Inv-loop μ-loop
 loop-holds c = c .pre
 
-mark-block-requires : tie.Need-mark-block-requires Inv-loop μ-loop
-mark-block-requires c κs = (c .before .loop .inv, omega arith)
+slice-aggregate-read-full : tie.Need-slice-aggregate-read-full Inv-loop μ-loop
+slice-aggregate-read-full c = search needs
+
+read-full-requires : tie.Need-read-full-requires Inv-loop μ-loop
+read-full-requires c κs = search needs
+
+array-share-prefix-calls : tie.Need-array-share-prefix-calls Inv-loop μ-loop
+array-share-prefix-calls c = search needs
+
+slice-aggregate-mark : tie.Need-slice-aggregate-mark Inv-loop μ-loop
+slice-aggregate-mark c = search needs
+
+slice-aggregate-mark-2 : tie.Need-slice-aggregate-mark-2 Inv-loop μ-loop
+slice-aggregate-mark-2 c = search needs
+
+mark-requires : tie.Need-mark-requires Inv-loop μ-loop
+mark-requires c κs = search needs
+
+array-share-prefix-out : tie.Need-array-share-prefix-out Inv-loop μ-loop
+array-share-prefix-out c = search needs
+
+slice-aggregate-write-all : tie.Need-slice-aggregate-write-all Inv-loop μ-loop
+slice-aggregate-write-all c = search needs
+
+write-all-requires : tie.Need-write-all-requires Inv-loop μ-loop
+write-all-requires c κs = search needs
 
 returns : tie.Need-returns Inv-loop μ-loop
-returns c = tt
-
-loop-less : tie.Need-loop-less Inv-loop μ-loop
-loop-less c = omega (arith, c .before .before .before .mark-block .ensures .grows (not-false (c .before .before .before .mark-block .result .more) (c .before .if1 .left)))
-
-loop-again : tie.Need-loop-again Inv-loop μ-loop
-loop-again c = c .before .before .before .mark-block .ensures .valid
+returns c = search needs
 
 returns-2 : tie.Need-returns-2 Inv-loop μ-loop
-returns-2 c = tt
+returns-2 c = search needs
+
+loop-less : tie.Need-loop-less Inv-loop μ-loop
+loop-less c = omega (arith, c .before .before .before .before .before .before .mark .ensures .calls-are, c .before .before .before .before .before .before .before .before .before .before .read-full .ensures .1, c .before .if2 .left, c .before .before .before .before .before .before .before .before .before .before .before .before .loop-test .taken)
+
+loop-again : tie.Need-loop-again Inv-loop μ-loop
+loop-again c = c .before .before .before .before .before .before .mark .ensures .valid
+
+returns-3 : tie.Need-returns-3 Inv-loop μ-loop
+returns-3 c = search needs
 
 pub mark-calls-spec : {M : Type 1} → statement M
 mark-calls-spec =
@@ -38,8 +65,17 @@ mark-calls-spec =
     Inv-loop
     μ-loop
     loop-holds
-    mark-block-requires
+    slice-aggregate-read-full
+    read-full-requires
+    array-share-prefix-calls
+    slice-aggregate-mark
+    slice-aggregate-mark-2
+    mark-requires
+    array-share-prefix-out
+    slice-aggregate-write-all
+    write-all-requires
     returns
+    returns-2
     loop-less
     loop-again
-    returns-2)
+    returns-3)

@@ -1,10 +1,11 @@
--- Where there is no number of ticks, nothing is promised of the dates. Else `waiting` starts with the least ticks, which are few.
+-- Where there is no number of ticks, the dates and the configuration are left as they are. Else `waiting` starts with the least ticks, which are few.
 -- Assumes nothing.
 use native.Mathlib.Omega.{arith}
 use Rattle.enforcement.specs.Model.{prospect}
 use Rattle.retimer.specs.Readings.{located}
 use Rattle.retimer.specs.Optimum.{modelOf}
 use Rattle.retimer.proofs.Prospects.{plan-none, ticks-of, ticks-most}
+use Rattle.retimer.proofs.Walk.{plan-some}
 use borrow.Author.Needs.{needs}
 use Rattle.retimer.proofs.optimum.solve.Statement.{statement}
 use Rattle.retimer.proofs.optimum.solve.Tie as tie
@@ -41,7 +42,10 @@ same-length-3 : tie.Need-same-length-3
 same-length-3 c = search needs
 
 returns-2 : tie.Need-returns-2
-returns-2 c = search needs
+returns-2 c =
+    let b = c .before .before .before .before .before .before .before .before .before .before .before .before .before .before .before .before .before .before in
+    let f = c .before .before .before .before .before .before .before .before .before .before .before .best in
+    plan-some (b .args .s .now) (b .args .cs .now) (b .args .l) (b .args .r) (b .args .t) (b .args .out .now) _ (f .result) _ (ticks-of (prospect (modelOf (b .args .s .now)) (b .args .cs .now) (located (b .args .l) (b .args .r))) (f .result) (f .ensures .value-is) (c .before .before .before .before .before .before .before .before .if1 .left)) (c .before .before .before .before .before .waiting .ensures)
 
 pub solve-spec : {M : Type 1} → statement M
 solve-spec =

@@ -1,5 +1,6 @@
 -- `replay::replay` meets its contract. The loop's invariant: the box and the answer are those of the calls in the first i bytes.
 -- Assumes nothing.
+use mathlib.Core.Path.{refl}
 use Prim.Native.Nat.{_-_}
 use native.Mathlib.Omega.{arith}
 use lib.ListN.{length}
@@ -27,7 +28,8 @@ enum-told-2 c = search needs
 returns : tie.Need-returns Inv-loop μ-loop
 returns c =
     let v = c .before .before .before .load in
-    (v .ensures .checked, λ l. absurd (refused-loads (c .before .before .before .before .before .before .args .s .now) (v .result .checked) (c .enum-told2 .given .0 .0) (c .enum-told2 .given .1) (v .ensures .checked) l))
+    let none = refused-loads (c .before .before .before .before .before .before .args .s .now) (v .result .checked) (c .enum-told2 .given .0 .0) (c .enum-told2 .given .1) (v .ensures .checked) in
+    record { checked = v .ensures .checked; followed = λ l. absurd (none l); no-box = λ n. (v .ensures .no-box n, refl) }
 
 loop-holds : tie.Need-loop-holds Inv-loop μ-loop
 loop-holds c = replaying-none (c .before .before .before .load .result .monitor) (c .before .before .before .before .before .before .args .calls .now)
@@ -62,7 +64,12 @@ returns-2 c =
     let e = c .before .before in
     let v = e .before .before .before .load in
     let a = e .before .before .before .before .before .before .args in
-    (v .ensures .checked, λ f. replaying-all (a .s .now) (v .result .monitor) (a .calls .now) (l .i) (l .b) (l .answer) (v .result .checked) (v .ensures .fresh f) (l .inv) (omega (arith, c .loop-test .left)))
+    let loads = accepted-loads (a .s .now) (v .result .checked) (e .enum-told .given .0 .0) (e .enum-told .given .1) (v .ensures .checked) in
+    record {
+      checked = v .ensures .checked;
+      followed = λ f. replaying-all (a .s .now) (v .result .monitor) (a .calls .now) (l .i) (l .b) (l .answer) (v .result .checked) (v .ensures .fresh f) (l .inv) (omega (arith, c .loop-test .left));
+      no-box = λ n. absurd (n loads);
+    }
 
 pub replay-spec : {M : Type 1} → statement M
 replay-spec =

@@ -25,6 +25,7 @@ worked x =
       here-is = w .before .wait-many .ensures .0;
       sized = omega (arith, w .with-action .ok);
       joined = w .with-action .ensures;
+      before = _;
       planned = x .before .before .plan .ensures;
     }
 

@@ -21,10 +21,17 @@ nothing-requires : tie.Need-nothing-requires
 nothing-requires c κs = search needs
 
 returns : tie.Need-returns
-returns c = search needs
+returns c =
+    let s = c .before .before .before .before .before .args .s .now in
+    let k = c .before .before .before .check in
+    let l = accepted-loads s (k .result) (c .before .enum-told .given .0 .0) (c .before .enum-told .given .1) (k .ensures) in
+    record { checked = k .ensures; fresh = λ m. c .fresh .ensures; no-box = λ n. absurd (n l) }
 
 returns-2 : tie.Need-returns-2
-returns-2 c = record { checked = c .before .before .before .check .ensures; fresh = λ l. absurd (refused-loads (c .before .before .before .before .before .args .s .now) (c .before .before .before .check .result) (c .before .enum-told2 .given .0 .0) (c .before .enum-told2 .given .1) (c .before .before .before .check .ensures) l) }
+returns-2 c =
+    let s = c .before .before .before .before .before .args .s .now in
+    let k = c .before .before .before .check in
+    record { checked = k .ensures; fresh = λ l. absurd (refused-loads s (k .result) (c .before .enum-told2 .given .0 .0) (c .before .enum-told2 .given .1) (k .ensures) l); no-box = λ n. c .nothing .ensures }
 
 pub load-spec : {M : Type 1} → statement M
 load-spec =

@@ -1,0 +1,94 @@
+// Lists of calls on a fresh box: the last answer, and the box after them.
+use crate::print;
+use drafting::script;
+use marking::block;
+use marking::desk;
+use report::line;
+use retimer::limits::Monitor;
+use retimer::monitor::Answer;
+use retimer::replay;
+
+fn print_answer(a: Answer) {
+    let mut out = [0u8; line::LINE];
+    let end = line::put_answer(&mut out, 0, a);
+    print::word(&out[..end]);
+}
+
+// The scheduled commands with their dates.
+fn print_schedule(b: Monitor) {
+    let slots = b.schedule;
+    let n = b.planned;
+    let mut i: usize = 0;
+    while i < n {
+        if Monitor::SCHEDULED <= i {
+            return;
+        }
+        let e = slots[i];
+        print::byte(e.action);
+        print::date(e.date);
+        i += 1;
+    }
+}
+
+// The location, the readings and the date last reached.
+fn print_last(b: Monitor) {
+    let r = b.readings;
+    if r.len() == 2 {
+        print::configuration(b.location, r[0], r[1]);
+    }
+    print::date(b.last);
+}
+
+fn print_box(b: Monitor) {
+    print::word(b"; date");
+    print::date(b.date);
+    print::word(b"; held");
+    print::number(b.held as u64);
+    print::word(b"; schedule");
+    print_schedule(b);
+    print::word(b"; last");
+    print_last(b);
+    print::word(b"\n");
+}
+
+// The calls of a text on a fresh box of a sheet.
+fn replay(title: &[u8], sheet: &[u8], text: &[u8]) {
+    let mut calls = [0u8; block::BYTES];
+    let n = script::calls_of(text, &mut calls);
+    let r = replay::replay(sheet, &calls[..n]);
+    let checked = r.checked;
+    let answer = r.answer;
+    let b = r.monitor;
+    print::word(title);
+    desk::print_checked(checked);
+    print_answer(answer);
+    print_box(b);
+}
+
+// Questions P1 to P10.
+pub fn keys() {
+    print::word(b"replay\n");
+    replay(b"P1: ", &course::SHEET_A, b"1 at 4, 1 at 5");
+    replay(b"P2: ", &course::SHEET_A, b"1 at 4, 1 at 5, 0 at 6");
+    replay(b"P3: ", &course::SHEET_A, b"1 at 4, 1 at 5, 0 at 6, 1 at 6");
+    replay(b"P4: ", &course::SHEET_B, b"1 at 0");
+    replay(b"P5: ", &course::SHEET_B, b"0 at 3, 1 at 5");
+    replay(b"P6: ", &course::SHEET_B, b"0 at 3, 1 at 5, 0 at 5");
+    replay(b"P7: ", &course::SHEET_C, b"0 at 5, 255 at 8, 1 at 8");
+    replay(b"P8: ", &course::SHEET_C, b"0 at 5, 255 at 9, 1 at 9");
+    replay(b"P9: ", &course::SHEET_D, b"0 at 2, 1 at 3");
+    replay(b"P10: ", &course::SHEET_E, b"17 x 0 at 0, 1 at 0");
+}
+
+// No call, held commands, both lists empty after a batch was played, and a sheet that does not load.
+pub fn edges() {
+    let a = course::SHEET_A;
+    replay(b"no call: ", &a, b"");
+    replay(b"held: ", &course::SHEET_E, b"0 at 2, 0 at 7");
+    replay(
+        b"played: ",
+        &course::SHEET_B,
+        b"0 at 3, 1 at 5, 255 at 15, 255 at 16",
+    );
+    replay(b"refused: ", &a[..41], b"0 at 1");
+}

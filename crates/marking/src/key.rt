@@ -1,0 +1,30 @@
+// The key of a sheet and a list of calls that stand in slices: the desk program's whole text.
+use crate::block;
+use report::line;
+use retimer::limits::Monitor;
+use retimer::sheet::Checked;
+ghost use Prim.Native.Nat.{_+_, _*_, _/_, _≤_};
+ghost use lib.ListN.{length};
+ghost use Rattle.io.specs.Counts.{Counts};
+ghost use Rattle.report.specs.Texts.{Wrote};
+ghost use Rattle.marking.specs.Marks.{keyText};
+
+// Writes the line of the sheet and, where it loads, those of the calls; answers the text's size.
+pub fn key(sheet: &[u8], calls: &[u8], out: &mut [u8]) -> usize
+    requires { ⌜ 128 + (80 * (length (now calls) / 5) + 80) ≤ length (now out) ⌝ }
+    ensures { λ e. ⌜ Wrote (now (out .entry)) 0 (keyText (now (sheet .entry)) (now (calls .entry))) (now (out .exit)) e ⌝ }
+    ensures { λ e. ⌜ Counts e (now (out .exit)) ⌝ }
+{
+    let loaded = Monitor::load(sheet);
+    let checked = loaded.checked;
+    let first = line::checked_line(out, 0, checked);
+    match checked {
+        Checked::Accepted(_) => {}
+        Checked::Refused(_) => {
+            return first;
+        }
+    }
+    let fresh = loaded.monitor;
+    let marked = block::mark(fresh, calls, 0, &mut out[first..]);
+    first + marked.size
+}
