@@ -1,7 +1,7 @@
 //! Compares a desk program with this library over random inputs.
 
 use crate::desk;
-use crate::generate::{Kind, KINDS};
+use crate::generate::Kind;
 use crate::tally::Tally;
 use std::io::{self, Write};
 use std::path::{Path, PathBuf};
@@ -41,10 +41,15 @@ pub struct Difference {
     pub input: Option<PathBuf>,
 }
 
-/// Runs every kind for each seed through the program and the library.
-pub fn compare(program: &Path, first_seed: u64, seeds: u64) -> Result<Summary, Stop> {
+/// Runs each of the kinds for each seed through the program and the library.
+pub fn compare<'a>(
+    program: &Path,
+    kinds: impl IntoIterator<Item = &'a Kind>,
+    first_seed: u64,
+    seeds: u64,
+) -> Result<Summary, Stop> {
     let mut summary = Summary::default();
-    for kind in KINDS {
+    for kind in kinds {
         for seed in (0..seeds).map(|step| first_seed.wrapping_add(step)) {
             compare_one(program, kind, seed, &mut summary)?;
         }

@@ -1,8 +1,11 @@
 //! The generator's kinds: deterministic, and showing every answer, refusal
 //! and lamp state often.
 
-use host::desk;
-use host::generate::{kind_named, KINDS};
+mod common;
+
+use common::first_call;
+use host::desk::{self, CALL};
+use host::generate::{kind_named, BLOCK, KINDS};
 use host::sheet::{self, Automaton};
 use host::tally::Tally;
 
@@ -33,9 +36,9 @@ fn automata(name: &str) -> Vec<(usize, Automaton)> {
     let kind = kind_named(name).expect("the kind exists");
     let inputs = (0..SEEDS).map(|seed| kind.input(seed));
     let load = |input: Vec<u8>| {
-        let length = usize::from(u16::from_le_bytes([input[0], input[1]]));
-        let automaton = sheet::read(input.get(2..2 + length)?).ok()?;
-        Some((length, automaton))
+        let end = first_call(&input);
+        let automaton = sheet::read(input.get(2..end)?).ok()?;
+        Some((end - 2, automaton))
     };
     inputs.filter_map(load).collect()
 }
@@ -183,6 +186,81 @@ fn tails_and_truncated() {
         ("tail 4", 15),
     ];
     require("truncated", &least);
+}
+
+/// How many calls the inputs of a kind have, and how many bytes are left over.
+fn sizes(name: &str) -> Vec<(usize, usize)> {
+    let kind = kind_named(name).expect("the kind exists");
+    let size = |seed| {
+        let input = kind.input(seed);
+        let bytes = input.len() - first_call(&input);
+        (bytes / CALL, bytes % CALL)
+    };
+    (0..SEEDS).map(size).collect()
+}
+
+#[test]
+fn many_calls() {
+    let least = [
+        ("held", 15000),
+        ("scheduled 1", 15000),
+        ("scheduled 2 to 16", 5000),
+        ("dropped", 5000),
+        ("played", 30000),
+        ("lamp 0", 150000),
+        ("lamp 1", 5000),
+    ];
+    require("many_calls", &least);
+    assert!(sizes("many_calls")
+        .iter()
+        .all(|(calls, _)| *calls > 5 * BLOCK));
+}
+
+/// Whether actions are held after so many calls and the lamp is dark.
+fn still_held(output: &str, calls: usize) -> bool {
+    let lines: Vec<&str> = output.lines().take(1 + calls).collect();
+    let is_held = |line: &&str| line.contains(" held ");
+    let moved = |line: &&&str| is_held(line) || line.contains(" scheduled ");
+    let last = lines.iter().rev().find(moved);
+    last.is_some_and(is_held) && lines[calls].ends_with("lamp 0")
+}
+
+#[test]
+fn held_lists_cross_the_ends_of_blocks() {
+    for (name, ends, least) in [("many_calls", 1..=5, 80), ("whole_blocks", 1..=1, 80)] {
+        let kind = kind_named(name).expect("the kind exists");
+        let outputs: Vec<String> = (0..SEEDS)
+            .map(|seed| desk::run(&kind.input(seed)))
+            .collect();
+        for end in ends.map(|blocks| BLOCK * blocks) {
+            let long = outputs.iter().filter(|output| output.lines().count() > end);
+            let found = long.filter(|output| still_held(output, end)).count();
+            assert!(found >= least, "{name}: after {end} calls only {found}");
+        }
+    }
+}
+
+#[test]
+fn whole_blocks() {
+    let least = [
+        ("held", 4000),
+        ("scheduled 2 to 16", 2000),
+        ("played", 8000),
+    ];
+    require("whole_blocks", &least);
+    let sizes = sizes("whole_blocks");
+    let count = |past: usize, tail: bool| {
+        let fits = |(calls, left): &&(usize, usize)| calls % BLOCK == past && (*left > 0) == tail;
+        sizes.iter().filter(fits).count()
+    };
+    // A call less, whole blocks, a call more; without and with a tail.
+    for past in [BLOCK - 1, 0, 1] {
+        assert!(count(past, false) >= 40 && count(past, true) >= 15);
+    }
+    for blocks in 1..=3 {
+        assert!(sizes.contains(&(BLOCK * blocks, 0)));
+    }
+    assert!(sizes.iter().all(|(calls, _)| (calls + 1) % BLOCK <= 2));
 }
 
 #[test]

@@ -46,7 +46,7 @@ fn generate_writes_inputs() {
 
 #[test]
 fn wrong_arguments() {
-    let cases: [(&str, &[&str]); 10] = [
+    let cases: [(&str, &[&str]); 12] = [
         (REFERENCE, &["extra"]),
         (GENERATE, &[]),
         (GENERATE, &["one_clock"]),
@@ -56,6 +56,8 @@ fn wrong_arguments() {
         (COMPARE, &[]),
         (COMPARE, &["program"]),
         (COMPARE, &["program", "many"]),
+        (COMPARE, &["program", "1", "one_clock"]),
+        (COMPARE, &[REFERENCE, "1", "0", "no_such_kind"]),
         (COMPARE, &["/no/such/program", "1"]),
     ];
     for (program, arguments) in cases {
@@ -74,6 +76,17 @@ fn compare_with_the_reference() {
     let inputs = 3 * host::generate::KINDS.len();
     assert!(text.starts_with(&format!("no difference: {inputs} inputs")));
     assert!(text.contains("lamp 0") && text.contains("lamp 1"));
+}
+
+#[test]
+fn compare_named_kinds() {
+    let output = call(COMPARE, &[REFERENCE, "3", "100", "bad_sheet", "truncated"]);
+    assert!(output.status.success());
+    assert!(text(&output.stdout).starts_with("no difference: 6 inputs"));
+    let output = call(COMPARE, &[REFERENCE, "2", "7", "many_calls"]);
+    let text = text(&output.stdout);
+    assert!(text.starts_with("no difference: 2 inputs"));
+    assert!(text.contains("2  sheet loaded"), "{text}");
 }
 
 /// Writes a shell script that runs the reference and changes its lines.

@@ -1,24 +1,28 @@
 //! Compares a desk program with the reference over random inputs.
 
 use host::compare::{compare, Stop};
+use host::generate::{kind_named, Kind, KINDS};
 use std::ffi::OsString;
 use std::path::Path;
 use std::process::ExitCode;
 
-const USAGE: &str = "usage: compare PROGRAM SEEDS [FIRST_SEED]";
+const USAGE: &str = "usage: compare PROGRAM SEEDS [FIRST_SEED [KIND]..]";
+
+/// What to compare.
+struct Task<'a> {
+    program: &'a Path,
+    seeds: u64,
+    first: u64,
+    kinds: Vec<&'static Kind>,
+}
 
 fn main() -> ExitCode {
     let arguments: Vec<OsString> = std::env::args_os().skip(1).collect();
-    let (seeds, first) = match arguments.as_slice() {
-        [_, seeds] => (number(seeds), Some(0)),
-        [_, seeds, first] => (number(seeds), number(first)),
-        _ => (None, None),
-    };
-    let (Some(seeds), Some(first)) = (seeds, first) else {
-        eprintln!("{USAGE}");
+    let Some(task) = parse(&arguments) else {
+        eprintln!("{USAGE}\nthe kinds are those of `generate --list`");
         return ExitCode::from(2);
     };
-    match compare(Path::new(&arguments[0]), first, seeds) {
+    match compare(task.program, task.kinds, task.first, task.seeds) {
         Ok(summary) => {
             print!("{summary}");
             ExitCode::SUCCESS
@@ -28,11 +32,33 @@ fn main() -> ExitCode {
             ExitCode::FAILURE
         }
         Err(Stop::NotRun(error)) => {
-            let program = arguments[0].to_string_lossy();
+            let program = task.program.to_string_lossy();
             eprintln!("compare: {program:?} cannot be run: {error}\n{USAGE}");
             ExitCode::from(2)
         }
     }
+}
+
+/// The task, or nothing if the arguments are wrong; no kind means every kind.
+fn parse(arguments: &[OsString]) -> Option<Task<'_>> {
+    let [program, seeds, rest @ ..] = arguments else {
+        return None;
+    };
+    let (first, names) = match rest {
+        [] => (0, rest),
+        [first, names @ ..] => (number(first)?, names),
+    };
+    let named = names.iter().map(|name| kind_named(name.to_str()?));
+    let mut kinds: Vec<&Kind> = named.collect::<Option<_>>()?;
+    if kinds.is_empty() {
+        kinds.extend(KINDS);
+    }
+    Some(Task {
+        program: Path::new(program),
+        seeds: number(seeds)?,
+        first,
+        kinds,
+    })
 }
 
 fn number(argument: &OsString) -> Option<u64> {

@@ -1,5 +1,6 @@
 //! The named kinds of desk inputs.
 
+use super::blocks::{many_calls, whole_blocks};
 use super::calls::{push_call, push_random_calls, Pace, Plan, Script};
 use super::damage::{at_an_edge, damaged};
 use super::draft::{draw, Bounds, Draft, Goal, Profile};
@@ -31,6 +32,8 @@ pub const KINDS: &[Kind] = &[
     kind("edge_sheet", edge_sheet),
     kind("bad_calls", bad_calls),
     kind("tails", tails),
+    kind("many_calls", many_calls),
+    kind("whole_blocks", whole_blocks),
     kind("truncated", truncated),
     kind("any_bytes", any_bytes),
 ];
@@ -44,8 +47,8 @@ pub fn kind_named(name: &str) -> Option<&'static Kind> {
     KINDS.iter().find(|kind| kind.name == name)
 }
 
-const SMALL: Bounds = Bounds { low: 1, high: 5 };
-const MIDDLE: Bounds = Bounds { low: 1, high: 14 };
+pub(super) const SMALL: Bounds = Bounds { low: 1, high: 5 };
+pub(super) const MIDDLE: Bounds = Bounds { low: 1, high: 14 };
 const LARGE: Bounds = Bounds { low: 25, high: 30 };
 const ALL: Bounds = Bounds { low: 0, high: 30 };
 
@@ -55,14 +58,14 @@ const SLOW: Pace = Pace {
     step: 2,
     jump: 35,
 };
-const STEADY: Pace = Pace {
+pub(super) const STEADY: Pace = Pace {
     still: 35,
     jumps: 15,
     step: 5,
     jump: 40,
 };
 
-fn not_dropped(answer: &Answer) -> bool {
+pub(super) fn not_dropped(answer: &Answer) -> bool {
     *answer != Answer::Dropped
 }
 
@@ -78,7 +81,7 @@ fn schedules(answer: &Answer) -> bool {
 }
 
 /// A profile of a middling automaton.
-fn profile(random: &mut Random, clocks: u8) -> Profile {
+pub(super) fn profile(random: &mut Random, clocks: u8) -> Profile {
     let goals = [
         Goal::Last,
         Goal::Last,
@@ -106,7 +109,7 @@ fn profile(random: &mut Random, clocks: u8) -> Profile {
 }
 
 /// A plan of middling calls.
-fn plan(random: &mut Random) -> Plan {
+pub(super) fn plan(random: &mut Random) -> Plan {
     Plan {
         calls: random.between(5, 40),
         collections: random.between(10, 40),
@@ -328,10 +331,15 @@ fn tails(random: &mut Random) -> Vec<u8> {
     if random.chance(50) {
         input = one_clock(random);
     }
+    push_tail(random, &mut input);
+    input
+}
+
+/// Adds one to four bytes, fewer than a call has.
+pub(super) fn push_tail(random: &mut Random, input: &mut Vec<u8>) {
     for _ in 0..random.between(1, 4) {
         input.push(random.byte(0, 255));
     }
-    input
 }
 
 /// Inputs that end somewhere.

@@ -1,10 +1,12 @@
 //! Random desk inputs: named kinds, each deterministic from a seed.
 
+mod blocks;
 mod calls;
 mod damage;
 mod draft;
 mod kinds;
 
+pub use blocks::BLOCK;
 pub use draft::{draw, Bounds, Draft, Goal, Profile};
 pub use kinds::{kind_named, Kind, KINDS};
 

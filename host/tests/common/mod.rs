@@ -29,6 +29,11 @@ pub fn dates(monitor: &Monitor) -> Vec<u32> {
     monitor.history().iter().map(|timed| timed.date).collect()
 }
 
+/// Where the first call starts in a desk input.
+pub fn first_call(input: &[u8]) -> usize {
+    2 + usize::from(u16::from_le_bytes([input[0], input[1]]))
+}
+
 /// A desk input of a sheet and calls.
 pub fn input(bytes: &[u8], calls: &[(u8, u32)]) -> Vec<u8> {
     let mut input = (bytes.len() as u16).to_le_bytes().to_vec();
