@@ -47,6 +47,9 @@ const C_TEXT: &str = include_str!("../questions/c.txt");
 const D_TEXT: &str = include_str!("../questions/d.txt");
 const E_TEXT: &str = include_str!("../questions/e.txt");
 const EXAMPLE: &str = include_str!("../questions/example.txt");
+const BLOCK: &str = include_str!("../questions/block.txt");
+const TAIL: &str = include_str!("../questions/tail.txt");
+const LARGEST: &str = include_str!("../questions/largest.txt");
 
 /// Questions P1 to P10.
 const KEYED: [&str; 10] = [
@@ -293,8 +296,9 @@ fn require_return(input: &[u8], text: &str) {
 
 #[test]
 fn files_and_back() {
-    let others = [A_TEXT, B_TEXT, C_TEXT, D_TEXT, E_TEXT, EXAMPLE];
-    for text in KEYED.into_iter().chain(others) {
+    let sheets = [A_TEXT, B_TEXT, C_TEXT, D_TEXT, E_TEXT];
+    let others = [EXAMPLE, BLOCK, TAIL, LARGEST];
+    for text in KEYED.into_iter().chain(sheets).chain(others) {
         let bytes = checked(text);
         let canonical = decode(&bytes).expect("the layout is good");
         require_return(&bytes, &canonical);

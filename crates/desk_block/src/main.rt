@@ -1,5 +1,5 @@
-// The desk program on sheet A and 200 calls, which fill one block and leave nothing. The calls offer command 0 and collect it, at dates 1, 1, 2, 2 and so on:
-// each is scheduled at its date and then played.
+// The desk program on 200 calls, which fill two blocks and leave nothing. Over the first block's end the box keeps held commands, scheduled ones and its date.
+// The calls stand in host/questions/block.txt.
 fn main() {
     marking::desk::run();
 }

@@ -1,5 +1,5 @@
-// The desk program on sheet A, 401 calls, which fill two blocks and begin a third, and three bytes more. The calls offer command 0 and collect it, at dates
-// 1, 1, 2, 2 and so on: each is scheduled at its date and then played.
+// The desk program on 305 calls, which fill three blocks and begin a fourth, and three bytes more. Held commands cross the first two blocks' ends, and a lit
+// lamp the third's. The calls stand in host/questions/tail.txt.
 fn main() {
     marking::desk::run();
 }
