@@ -68,17 +68,18 @@ pub const KINDS: &[Kind] = &[
     kind("one clock", [40_000, 1_600, 15], mixed::one_clock),
     kind("two clocks", [40_000, 1_600, 15], mixed::two_clocks),
     kind("long held lists, one clock", [40_000, 800, 7], long_one),
-    kind("long held lists, two clocks", [40_000, 800, 7], long_two),
-    kind("heaviest, many states", [680, 34, 7], batches_many),
-    kind("heaviest, late correction", [34, 34, 3], batches_late),
+    kind("long held lists, two clocks", [40_000, 800, 3], long_two),
+    kind("heaviest, many states", [680, 34, 5], batches_many),
+    kind("heaviest, late correction", [34, 34, 5], batches_late),
 ];
 
-/// The kinds that repeat one offer each.
+/// The kinds that repeat one offer each, so often that it takes longer than the
+/// offers before it, whose noise it would be lost in otherwise.
 pub const WORST: &[Kind] = &[
-    kind("many states, S-4", [400, 4, 15], heaviest::held_too_many),
-    kind("many states, dropped", [400, 4, 15], heaviest::dropped),
+    kind("many states, S-4", [200, 4, 5], heaviest::held_too_many),
+    kind("many states, dropped", [200, 4, 5], heaviest::dropped),
     kind("many states, S-3", [40, 2, 7], heaviest::no_room_many),
-    kind("late correction, S-3", [2, 1, 3], heaviest::no_room_late),
+    kind("late correction, S-3", [40, 1, 3], heaviest::no_room_late),
 ];
 
 /// The kind whose times are per load.

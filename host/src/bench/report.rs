@@ -117,7 +117,7 @@ fn times(name: &str, measured: &Measured, unit: Unit) -> String {
     let program = each(measured.counted.program);
     let reference = each(measured.counted.reference);
     let ratio = measured.counted.ratio();
-    let ratio = ratio.map_or("-".into(), |ratio| format!("{ratio:.2}"));
+    let ratio = ratio.map_or("-".into(), |ratio| format!("{ratio:.3}"));
     let count = measured.count;
     format!("{name:<28} {count:>7} {program:>17.3} {reference:>19.3} {ratio:>8}")
 }
