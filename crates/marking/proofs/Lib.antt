@@ -1,3 +1,4 @@
+pub mod Blocks
 pub mod Following
 pub mod Inputs
 pub mod Keys

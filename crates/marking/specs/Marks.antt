@@ -55,6 +55,11 @@ pub record MarkRight (b : Monitor) (s : Bytes) (n : ℕ) (before after : List �
   pub valid : Valid (r .monitor)
   pub same-sheet : bytesOf (r .monitor) ≡ bytesOf b
 
+-- Blocks join: the text of bytes that begin with whole calls is the text of those calls, and behind it that of the rest, on the box and with the number of
+-- calls that the first part gives.
+abbrev pub Joins : Compiled → model.Monitor → ℕ → Bytes → Bytes → Type 0
+Joins m b n s t = length s % 5 ≡ 0 → blockText m b n (s ++ t) ≡ blockText m b n s ++ blockText m (replay m b (callsOf s) .monitor) (n + length s / 5) t
+
 -- ---- The desk program's input and its whole text
 
 -- The sheet's length, in the input's first two bytes; 0 where these are not there, or no sheet is so long.
