@@ -1,4 +1,8 @@
 // Decimal numbers in a text.
+use crate::field;
+ghost use mathlib.Core.Path.{_≡_};
+ghost use mathlib.Core.Bool.{true};
+ghost use Rattle.drafting.specs.Numerals.{isDigit, firstDigit, withDigit, numeralAt};
 
 // A number, and the place after its digits.
 pub struct Numeral {
@@ -6,12 +10,16 @@ pub struct Numeral {
     pub end: usize,
 }
 
-fn is_digit(b: u8) -> bool {
-    b'0' <= b && b <= b'9'
+fn is_digit(b: u8) -> bool
+    ensures { λ r. ⌜ r ≡ isDigit b ⌝ }
+{
+    field::within(b'0', b'9', b)
 }
 
 // The place of the first digit from a place on; the text's end if there is none.
-pub fn first_digit(text: &[u8], from: usize) -> usize {
+pub fn first_digit(text: &[u8], from: usize) -> usize
+    ensures { λ r. ⌜ r ≡ firstDigit (now (text .entry)) from ⌝ }
+{
     let mut i = from;
     while i < text.len() {
         if is_digit(text[i]) {
@@ -22,14 +30,11 @@ pub fn first_digit(text: &[u8], from: usize) -> usize {
     text.len()
 }
 
-// A number with a digit after it. What is no digit, or would make it too long, is passed over.
-fn with_digit(n: u64, b: u8) -> u64 {
-    if b < b'0' {
-        return n;
-    }
-    if b'9' < b {
-        return n;
-    }
+// A number with a digit after it. A digit that would make it too long is passed over.
+fn with_digit(n: u64, b: u8) -> u64
+    requires { ⌜ isDigit b ≡ true ⌝ }
+    ensures { λ r. ⌜ r ≡ withDigit n b ⌝ }
+{
     if 1_000_000_000_000 <= n {
         return n;
     }
@@ -37,7 +42,9 @@ fn with_digit(n: u64, b: u8) -> u64 {
 }
 
 // The number whose digits begin at a place.
-pub fn number_at(text: &[u8], from: usize) -> Numeral {
+pub fn number_at(text: &[u8], from: usize) -> Numeral
+    ensures { λ r. ⌜ r ≡ numeralAt (now (text .entry)) from ⌝ }
+{
     let mut value: u64 = 0;
     let mut i = from;
     while i < text.len() {
@@ -48,5 +55,8 @@ pub fn number_at(text: &[u8], from: usize) -> Numeral {
         value = with_digit(value, b);
         i += 1;
     }
-    Numeral { value, end: i }
+    Numeral {
+        value,
+        end: text.len(),
+    }
 }
