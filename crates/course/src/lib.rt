@@ -3,7 +3,7 @@ ghost use mathlib.Core.Path.{_≡_};
 ghost use Rattle.course.specs.Sheets.{sheetA, sheetB, sheetC, sheetD, sheetE};
 
 // Any 0 first; after the first 1, each 1 comes at least 5 ticks after the one before it.
-pub const SHEET_A: [u8; 42] = [
+const SHEET_A: [u8; 42] = [
     2,
     1,
     2,
@@ -55,7 +55,7 @@ pub fn sheet_a() -> [u8; 42]
 }
 
 // Command 0, then command 1 from 10 to 15 ticks after it.
-pub const SHEET_B: [u8; 32] = [
+const SHEET_B: [u8; 32] = [
     3,
     1,
     2,
@@ -97,7 +97,7 @@ pub fn sheet_b() -> [u8; 32]
 }
 
 // Command 0 up to date 8, then command 1 up to date 20.
-pub const SHEET_C: [u8; 32] = [
+const SHEET_C: [u8; 32] = [
     3,
     1,
     2,
@@ -139,7 +139,7 @@ pub fn sheet_c() -> [u8; 32]
 }
 
 // Command 0, then command 1 from date 10 on.
-pub const SHEET_D: [u8; 32] = [
+const SHEET_D: [u8; 32] = [
     3,
     1,
     2,
@@ -181,7 +181,7 @@ pub fn sheet_d() -> [u8; 32]
 }
 
 // Any number of commands 0, then command 1.
-pub const SHEET_E: [u8; 28] = [
+const SHEET_E: [u8; 28] = [
     2,
     1,
     2,

@@ -37,11 +37,26 @@ pub fn ask_front(title: &[u8], bytes: &[u8], n: usize, calls: &[u8]) {
 fn ask_text(title: &[u8], sheet: &[u8], calls: &[u8]) {
     let letter = field::capital(sheet);
     match letter {
-        b'A' => ask(title, &course::SHEET_A, calls),
-        b'B' => ask(title, &course::SHEET_B, calls),
-        b'C' => ask(title, &course::SHEET_C, calls),
-        b'D' => ask(title, &course::SHEET_D, calls),
-        b'E' => ask(title, &course::SHEET_E, calls),
+        b'A' => {
+            let s = course::sheet_a();
+            ask(title, &s, calls)
+        }
+        b'B' => {
+            let s = course::sheet_b();
+            ask(title, &s, calls)
+        }
+        b'C' => {
+            let s = course::sheet_c();
+            ask(title, &s, calls)
+        }
+        b'D' => {
+            let s = course::sheet_d();
+            ask(title, &s, calls)
+        }
+        b'E' => {
+            let s = course::sheet_e();
+            ask(title, &s, calls)
+        }
         _ => ask_numbers(title, sheet, calls),
     }
 }

@@ -2,7 +2,7 @@
 use crate::ask::ask_bytes;
 
 pub fn all() {
-    let a = course::SHEET_A;
+    let a = course::sheet_a();
     ask_bytes(b"Tail 1", &a, b"\xff");
     ask_bytes(b"Tail 2", &a, b"\xff\x00");
     ask_bytes(b"Tail 3", &a, b"\x00\x00\x00");

@@ -20,13 +20,15 @@ fn lit<'a>(s: &'a [u8], cs: &'a [u8], l: u8, x: u8, y: u8) {
 }
 
 pub fn all() {
-    lit(&course::SHEET_B, b"", 0, 31, 31);
-    lit(&course::SHEET_B, b"\x00", 0, 31, 31);
-    lit(&course::SHEET_B, b"", 2, 10, 31);
-    lit(&course::SHEET_C, b"\x00", 0, 8, 31);
-    lit(&course::SHEET_C, b"\x00", 0, 9, 31);
-    lit(&course::SHEET_C, b"", 0, 8, 31);
-    lit(&course::SHEET_C, b"", 0, 9, 31);
+    let b = course::sheet_b();
+    lit(&b, b"", 0, 31, 31);
+    lit(&b, b"\x00", 0, 31, 31);
+    lit(&b, b"", 2, 10, 31);
+    let c = course::sheet_c();
+    lit(&c, b"\x00", 0, 8, 31);
+    lit(&c, b"\x00", 0, 9, 31);
+    lit(&c, b"", 0, 8, 31);
+    lit(&c, b"", 0, 9, 31);
     lit(&guarded::TWO_CLOCKS, b"\x00", 0, 7, 7);
     lit(&guarded::TWO_CLOCKS, b"\x00", 0, 8, 8);
 }

@@ -15,20 +15,22 @@ fn live(s: &[u8], l: u8, x: u8, y: u8) {
 }
 
 pub fn one_clock() {
-    let b = course::SHEET_B;
+    let b = course::sheet_b();
     live(&b, 0, 31, 31);
     live(&b, 1, 0, 31);
     live(&b, 1, 15, 31);
     live(&b, 1, 16, 31);
     live(&b, 2, 31, 31);
-    let c = course::SHEET_C;
+    let c = course::sheet_c();
     live(&c, 0, 8, 31);
     live(&c, 0, 9, 31);
     live(&c, 1, 20, 31);
     live(&c, 1, 21, 31);
     live(&c, 2, 31, 31);
-    live(&course::SHEET_D, 1, 31, 31);
-    live(&course::SHEET_E, 0, 31, 31);
+    let d = course::sheet_d();
+    live(&d, 1, 31, 31);
+    let e = course::sheet_e();
+    live(&e, 0, 31, 31);
 }
 
 pub fn two_clocks() {

@@ -23,14 +23,14 @@ fn step(s: &[u8], c: u8, l: u8, x: u8, y: u8) {
 }
 
 pub fn one_clock() {
-    let a = course::SHEET_A;
+    let a = course::sheet_a();
     step(&a, 0, 0, 0, 31);
     step(&a, 1, 0, 7, 31);
     step(&a, 0, 1, 4, 31);
     step(&a, 1, 1, 4, 31);
     step(&a, 1, 1, 5, 31);
     step(&a, 1, 1, 31, 31);
-    let b = course::SHEET_B;
+    let b = course::sheet_b();
     step(&b, 0, 0, 3, 31);
     step(&b, 1, 0, 3, 31);
     step(&b, 1, 1, 9, 31);

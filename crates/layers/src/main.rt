@@ -13,7 +13,8 @@ fn main() {
     clocks::waits();
     clocks::resets();
     clocks::bounds();
-    sheets::all();
+    sheets::course();
+    sheets::fronts();
     lookup::one_clock();
     lookup::two_clocks();
     liveness::one_clock();

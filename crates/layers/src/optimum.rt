@@ -64,16 +64,21 @@ fn plan(s: &[u8], cs: &[u8], l: u8, x: u8, y: u8, t: u32) {
 
 pub fn one_clock() {
     print::word(b"plan\n");
-    plan(&course::SHEET_A, b"\x01", 1, 1, 31, 5);
-    plan(&course::SHEET_B, b"\x00\x01", 0, 5, 31, 5);
-    plan(&course::SHEET_B, b"\x00", 0, 3, 31, 3);
-    plan(&course::SHEET_B, b"\x01", 0, 0, 31, 0);
-    plan(&course::SHEET_C, b"\x00\x01", 0, 8, 31, 8);
-    plan(&course::SHEET_C, b"\x00\x01", 0, 9, 31, 9);
-    plan(&course::SHEET_D, b"\x00\x01", 0, 3, 31, 3);
-    plan(&course::SHEET_D, b"\x00\x01", 0, 31, 31, 1_000_000_000);
+    let a = course::sheet_a();
+    plan(&a, b"\x01", 1, 1, 31, 5);
+    let b = course::sheet_b();
+    plan(&b, b"\x00\x01", 0, 5, 31, 5);
+    plan(&b, b"\x00", 0, 3, 31, 3);
+    plan(&b, b"\x01", 0, 0, 31, 0);
+    let c = course::sheet_c();
+    plan(&c, b"\x00\x01", 0, 8, 31, 8);
+    plan(&c, b"\x00\x01", 0, 9, 31, 9);
+    let d = course::sheet_d();
+    plan(&d, b"\x00\x01", 0, 3, 31, 3);
+    plan(&d, b"\x00\x01", 0, 31, 31, 1_000_000_000);
+    let e = course::sheet_e();
     plan(
-        &course::SHEET_E,
+        &e,
         b"\x00\x00\x00\x00\x00\x00\x00\x00\x00\x00\x00\x00\x00\x00\x00\x00\x01",
         0,
         0,

@@ -68,27 +68,30 @@ fn replay(title: &[u8], sheet: &[u8], text: &[u8]) {
 // Questions P1 to P10.
 pub fn keys() {
     print::word(b"replay\n");
-    replay(b"P1: ", &course::SHEET_A, b"1 at 4, 1 at 5");
-    replay(b"P2: ", &course::SHEET_A, b"1 at 4, 1 at 5, 0 at 6");
-    replay(b"P3: ", &course::SHEET_A, b"1 at 4, 1 at 5, 0 at 6, 1 at 6");
-    replay(b"P4: ", &course::SHEET_B, b"1 at 0");
-    replay(b"P5: ", &course::SHEET_B, b"0 at 3, 1 at 5");
-    replay(b"P6: ", &course::SHEET_B, b"0 at 3, 1 at 5, 0 at 5");
-    replay(b"P7: ", &course::SHEET_C, b"0 at 5, 255 at 8, 1 at 8");
-    replay(b"P8: ", &course::SHEET_C, b"0 at 5, 255 at 9, 1 at 9");
-    replay(b"P9: ", &course::SHEET_D, b"0 at 2, 1 at 3");
-    replay(b"P10: ", &course::SHEET_E, b"17 x 0 at 0, 1 at 0");
+    let a = course::sheet_a();
+    replay(b"P1: ", &a, b"1 at 4, 1 at 5");
+    replay(b"P2: ", &a, b"1 at 4, 1 at 5, 0 at 6");
+    replay(b"P3: ", &a, b"1 at 4, 1 at 5, 0 at 6, 1 at 6");
+    let b = course::sheet_b();
+    replay(b"P4: ", &b, b"1 at 0");
+    replay(b"P5: ", &b, b"0 at 3, 1 at 5");
+    replay(b"P6: ", &b, b"0 at 3, 1 at 5, 0 at 5");
+    let c = course::sheet_c();
+    replay(b"P7: ", &c, b"0 at 5, 255 at 8, 1 at 8");
+    replay(b"P8: ", &c, b"0 at 5, 255 at 9, 1 at 9");
+    let d = course::sheet_d();
+    replay(b"P9: ", &d, b"0 at 2, 1 at 3");
+    let e = course::sheet_e();
+    replay(b"P10: ", &e, b"17 x 0 at 0, 1 at 0");
 }
 
 // No call, held commands, both lists empty after a batch was played, and a sheet that does not load.
 pub fn edges() {
-    let a = course::SHEET_A;
+    let a = course::sheet_a();
     replay(b"no call: ", &a, b"");
-    replay(b"held: ", &course::SHEET_E, b"0 at 2, 0 at 7");
-    replay(
-        b"played: ",
-        &course::SHEET_B,
-        b"0 at 3, 1 at 5, 255 at 15, 255 at 16",
-    );
+    let e = course::sheet_e();
+    replay(b"held: ", &e, b"0 at 2, 0 at 7");
+    let b = course::sheet_b();
+    replay(b"played: ", &b, b"0 at 3, 1 at 5, 255 at 15, 255 at 16");
     replay(b"refused: ", &a[..41], b"0 at 1");
 }

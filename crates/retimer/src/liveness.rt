@@ -12,7 +12,7 @@ ghost use Rattle.enforcement.specs.Loading.{Loads};
 ghost use Rattle.retimer.specs.Readings.{Readings, Standing, located};
 ghost use Rattle.retimer.specs.Live.{LiveTable, has, place, Added, leads, acts, belongs, Valuation, countOf, valuations, nthOf, valuation, Joined, Grown, Closed, Sound, Progress};
 
-// For each pair of readings the set of live locations.
+// For each pair of readings that can occur the set of live locations. With one clock, only those with the second reading saturated do.
 pub struct Liveness {
     pub sets: [u16; Monitor::VALUATIONS],
 }
