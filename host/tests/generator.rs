@@ -12,6 +12,9 @@ use host::tally::Tally;
 /// Seeds per kind over which occurrences are counted.
 const SEEDS: u64 = 400;
 
+/// Seeds per kind, from 0 on, that the gate compares.
+const GATE: u64 = 300;
+
 fn tally(name: &str) -> Tally {
     let kind = kind_named(name).expect("the kind exists");
     let mut tally = Tally::default();
@@ -214,6 +217,41 @@ fn many_calls() {
     assert!(sizes("many_calls")
         .iter()
         .all(|(calls, _)| *calls > 5 * BLOCK));
+}
+
+#[test]
+fn more_calls_than_16_bits_count() {
+    let sizes = sizes("many_calls");
+    let gate = sizes.iter().take(GATE as usize);
+    assert!(gate.filter(|(calls, _)| *calls >= 66_000).count() >= 2);
+    for (calls, _) in sizes {
+        assert!(calls <= 6 * BLOCK || (66_000..=70_000).contains(&calls));
+    }
+}
+
+/// The answers of an output, without the numbers of the calls.
+fn answers(output: &str) -> Vec<&str> {
+    let lines = output.lines().skip(1);
+    lines
+        .filter_map(|line| Some(line.split_once(' ')?.1))
+        .collect()
+}
+
+/// A program that goes on from a fresh box is seen, however late it does.
+#[test]
+fn all_blocks_of_long_inputs_need_the_box() {
+    let kind = kind_named("many_calls").expect("the kind exists");
+    let inputs = (0..GATE).map(|seed| kind.input(seed));
+    for input in inputs.filter(|input| input.len() > 66_000 * CALL) {
+        let output = desk::run(&input);
+        let right = answers(&output);
+        let (front, calls) = input.split_at(first_call(&input));
+        let blocks = calls.chunks(BLOCK * CALL).zip(right.chunks(BLOCK));
+        for (number, (block, right)) in blocks.enumerate().skip(1) {
+            let alone = desk::run(&[front, block].concat());
+            assert_ne!(answers(&alone), right, "block {number}");
+        }
+    }
 }
 
 /// Whether actions are held after so many calls and the lamp is dark.

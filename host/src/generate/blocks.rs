@@ -2,17 +2,31 @@
 
 use super::calls::Script;
 use super::draft::{draw, Draft, Goal, Profile};
-use super::kinds::{not_dropped, plan, profile, push_tail, MIDDLE, SMALL, STEADY};
+use super::kinds::{not_dropped, plan, profile, push_tail, scripted, MIDDLE, SMALL, STEADY};
 use crate::random::Random;
 use crate::sheet::{RULE, UNBOUNDED};
 
 /// Calls that the desk program reads at a time.
 pub const BLOCK: usize = 100;
 
-/// Five blocks and more.
+/// Five blocks and more, in one of a hundred cases far more.
 pub fn many_calls(random: &mut Random) -> Vec<u8> {
+    if random.chance(1) {
+        return beyond_16_bits(random);
+    }
     let more = 1 + random.below(BLOCK);
     lively(random, 5 * BLOCK + more)
+}
+
+/// More calls than a 16-bit number counts. Few collections keep the schedule
+/// filled, so that each block needs the box of the one before. No offer is
+/// steered, as that copies all that was ever scheduled.
+fn beyond_16_bits(random: &mut Random) -> Vec<u8> {
+    let draft = way_home(random);
+    let calls = random.between(66_000, 69_900);
+    let collections = random.between(15, 25);
+    let plan = plan(random).collecting(collections).pacing(STEADY);
+    scripted(random, &draft, plan.steering(0, not_dropped).times(calls))
 }
 
 /// Whole blocks, at times a call less or more, at times a tail.

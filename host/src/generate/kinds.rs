@@ -121,7 +121,7 @@ pub(super) fn plan(random: &mut Random) -> Plan {
 }
 
 /// A script with a draft's sheet and calls by a plan.
-fn scripted(random: &mut Random, draft: &Draft, plan: Plan) -> Vec<u8> {
+pub(super) fn scripted(random: &mut Random, draft: &Draft, plan: Plan) -> Vec<u8> {
     let mut script = Script::new(&draft.bytes());
     script.follow(random, plan);
     script.drain(random);
