@@ -2,8 +2,9 @@
 
 use crate::desk;
 use crate::generate::Kind;
+use crate::pieces::{cuts, feed};
 use crate::tally::Tally;
-use std::io::{self, Write};
+use std::io;
 use std::path::{Path, PathBuf};
 use std::process::{Command, Output, Stdio};
 use std::{env, fmt, fs, process, thread};
@@ -39,6 +40,29 @@ pub struct Difference {
     pub status: String,
     /// Where the input was written, if it could be.
     pub input: Option<PathBuf>,
+    /// Where the input was cut into pieces.
+    pub cuts: Vec<usize>,
+}
+
+/// An input and where it is cut into pieces.
+struct Case<'a> {
+    kind: &'a Kind,
+    seed: u64,
+    input: Vec<u8>,
+    cuts: Vec<usize>,
+}
+
+impl<'a> Case<'a> {
+    fn new(kind: &'a Kind, seed: u64) -> Self {
+        let input = kind.input(seed);
+        let cuts = cuts(kind, seed, &input);
+        Case {
+            kind,
+            seed,
+            input,
+            cuts,
+        }
+    }
 }
 
 /// Runs each of the kinds for each seed through the program and the library.
@@ -58,12 +82,12 @@ pub fn compare<'a>(
 }
 
 fn compare_one(program: &Path, kind: &Kind, seed: u64, summary: &mut Summary) -> Result<(), Stop> {
-    let input = kind.input(seed);
-    let expected = desk::run(&input);
-    let found = run(program, &input).map_err(Stop::NotRun)?;
+    let case = Case::new(kind, seed);
+    let expected = desk::run(&case.input);
+    let found = run(program, &case.input, &case.cuts).map_err(Stop::NotRun)?;
     // No exit status means that the program was broken off.
     if found.stdout != expected.as_bytes() || found.status.code().is_none() {
-        let difference = difference(kind, seed, &input, &expected, &found);
+        let difference = difference(case, &expected, &found);
         return Err(Stop::Difference(Box::new(difference)));
     }
     summary.inputs += 1;
@@ -72,8 +96,8 @@ fn compare_one(program: &Path, kind: &Kind, seed: u64, summary: &mut Summary) ->
     Ok(())
 }
 
-/// Runs a program on an input and gives what it prints.
-pub fn run(program: &Path, input: &[u8]) -> io::Result<Output> {
+/// Runs a program on an input, cut into pieces, and gives what it prints.
+pub fn run(program: &Path, input: &[u8], cuts: &[usize]) -> io::Result<Output> {
     let mut child = Command::new(program)
         .stdin(Stdio::piped())
         .stdout(Stdio::piped())
@@ -82,27 +106,29 @@ pub fn run(program: &Path, input: &[u8]) -> io::Result<Output> {
     thread::scope(|scope| {
         scope.spawn(move || {
             // A program may stop reading early; its output tells.
-            if let Some(mut stdin) = stdin {
-                let _ = stdin.write_all(input);
+            if let Some(stdin) = stdin {
+                let _ = feed(stdin, input, cuts);
             }
         });
         child.wait_with_output()
     })
 }
 
-fn difference(kind: &Kind, seed: u64, input: &[u8], expected: &str, found: &Output) -> Difference {
+fn difference(case: Case, expected: &str, found: &Output) -> Difference {
+    let (kind, seed) = (case.kind.name, case.seed);
     let text = String::from_utf8_lossy(&found.stdout);
     let (line, expected, found_line) = first_difference(expected, &text);
-    let name = format!("desk-input-{}-{seed}-{}.bin", kind.name, process::id());
+    let name = format!("desk-input-{kind}-{seed}-{}.bin", process::id());
     let path = env::temp_dir().join(name);
     Difference {
-        kind: kind.name,
+        kind,
         seed,
         line,
         expected,
         found: found_line,
         status: found.status.to_string(),
-        input: fs::write(&path, input).is_ok().then_some(path),
+        input: fs::write(&path, case.input).is_ok().then_some(path),
+        cuts: case.cuts,
     }
 }
 
@@ -132,6 +158,9 @@ impl fmt::Display for Difference {
         writeln!(out, "  expected: {}", self.expected)?;
         writeln!(out, "  found:    {}", self.found)?;
         writeln!(out, "the program ended with {}", self.status)?;
+        if !self.cuts.is_empty() {
+            writeln!(out, "the input had pauses after bytes {:?}", self.cuts)?;
+        }
         match &self.input {
             Some(path) => write!(out, "input: {}", path.display()),
             None => write!(out, "the input could not be written"),

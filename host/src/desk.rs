@@ -22,7 +22,7 @@ pub fn run(input: &[u8]) -> String {
 }
 
 /// Splits an input into sheet and calls; `None` if it has too few bytes.
-fn split(input: &[u8]) -> Option<(&[u8], &[u8])> {
+pub fn split(input: &[u8]) -> Option<(&[u8], &[u8])> {
     let (length, rest) = input.split_at_checked(2)?;
     let length = u16::from_le_bytes([length[0], length[1]]);
     rest.split_at_checked(usize::from(length))

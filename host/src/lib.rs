@@ -9,6 +9,7 @@ pub mod desk;
 pub mod generate;
 pub mod limits;
 pub mod monitor;
+pub mod pieces;
 pub mod question;
 pub mod random;
 pub mod refusal;

@@ -5,6 +5,7 @@ mod common;
 use common::input;
 use host::compare::run;
 use host::course::A;
+use host::pieces::EVERY;
 use std::path::{Path, PathBuf};
 use std::process::{Command, Output};
 
@@ -24,11 +25,11 @@ fn text(bytes: &[u8]) -> String {
 #[test]
 fn reference_prints_lines() {
     let input = input(A, &[(0, 1), (1, 4)]);
-    let output = run(Path::new(REFERENCE), &input).expect("the program runs");
+    let output = run(Path::new(REFERENCE), &input, &[]).expect("the program runs");
     let expected = "sheet 2 1 2 4 2\n1 scheduled 1 1 lamp 0\n2 scheduled 1 4 lamp 0\n";
     assert_eq!(text(&output.stdout), expected);
     assert!(output.status.success());
-    let output = run(Path::new(REFERENCE), &[]).expect("the program runs");
+    let output = run(Path::new(REFERENCE), &[], &[]).expect("the program runs");
     assert_eq!(text(&output.stdout), "sheet refused I-1\n");
 }
 
@@ -110,6 +111,18 @@ fn compare_with(name: &str, body: &str) -> String {
     text(&output.stdout)
 }
 
+/// Where a comparison left the input that differs.
+#[cfg(unix)]
+fn input_path(text: &str) -> &str {
+    let path = text.lines().find_map(|line| line.strip_prefix("input: "));
+    path.expect("the input was written")
+}
+
+#[cfg(unix)]
+fn remove_input(text: &str) {
+    std::fs::remove_file(input_path(text)).expect("the input can be removed");
+}
+
 #[cfg(unix)]
 #[test]
 fn compare_with_a_wrong_lamp() {
@@ -119,11 +132,29 @@ fn compare_with_a_wrong_lamp() {
     assert!(text.contains("first line that differs: "));
     assert!(text.contains("lamp 1\\n\"\n  found: "));
     // The input is at hand and shows the difference again.
-    let path = text.lines().find_map(|line| line.strip_prefix("input: "));
-    let path = PathBuf::from(path.expect("the input was written"));
-    let input = std::fs::read(&path).expect("the input can be read");
+    let input = std::fs::read(input_path(&text)).expect("the input can be read");
     assert!(host::desk::run(&input).contains("lamp 1"));
-    std::fs::remove_file(path).expect("the input can be removed");
+    remove_input(&text);
+}
+
+/// A program that takes what one read gives for the whole input.
+#[cfg(unix)]
+#[test]
+fn compare_with_a_single_read() {
+    let body = format!("dd bs=100000 count=1 2>/dev/null | '{REFERENCE}'");
+    let path = script("single-read.sh", &body);
+    let path = path.to_string_lossy();
+    // Whole inputs come in one read, all seeds from 1 on that are not cut.
+    let whole = (EVERY - 1).to_string();
+    let output = call(COMPARE, &[&path, &whole, "1", "course"]);
+    assert!(output.status.success());
+    // A slow start may join the pieces of one input, not those of ten.
+    let many = (10 * EVERY).to_string();
+    let output = call(COMPARE, &[&path, &many, "0", "course"]);
+    assert_eq!(output.status.code(), Some(1));
+    let text = text(&output.stdout);
+    assert!(text.contains("the input had pauses after bytes [1, "));
+    remove_input(&text);
 }
 
 #[cfg(unix)]
@@ -139,7 +170,6 @@ fn compare_with_silence_and_more() {
     for (name, body, expected) in cases.into_iter().chain([more]) {
         let text = compare_with(name, body);
         assert!(text.contains(expected), "{text}");
-        let path = text.lines().find_map(|line| line.strip_prefix("input: "));
-        std::fs::remove_file(path.expect("the input was written")).expect("it can be removed");
+        remove_input(&text);
     }
 }

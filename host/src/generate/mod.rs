@@ -15,11 +15,16 @@ use crate::random::Random;
 impl Kind {
     /// The input of this kind for a seed.
     pub fn input(&self, seed: u64) -> Vec<u8> {
+        (self.make)(&mut self.random(seed))
+    }
+
+    /// Random numbers for this kind and a seed.
+    pub fn random(&self, seed: u64) -> Random {
         // The name takes part, so that kinds do not share their random numbers.
         let name = self.name.bytes();
         let salt = name.fold(0u64, |salt, byte| salt.wrapping_mul(257) + u64::from(byte));
         let mixed = Random::new(salt).bits() ^ seed;
-        (self.make)(&mut Random::new(Random::new(mixed).bits()))
+        Random::new(Random::new(mixed).bits())
     }
 }
 
