@@ -28,6 +28,7 @@ fn stored_input(name: &str) -> Vec<u8> {
 fn inputs_come_from_texts() {
     for (name, text) in [
         ("desk", include_str!("../questions/example.txt")),
+        ("desk_bare", include_str!("../questions/a.txt")),
         ("desk_block", include_str!("../questions/block.txt")),
         ("desk_tail", include_str!("../questions/tail.txt")),
         ("desk_largest", include_str!("../questions/largest.txt")),
@@ -38,12 +39,22 @@ fn inputs_come_from_texts() {
 }
 
 #[test]
+fn refused_input_comes_from_a_text() {
+    let text = include_str!("../questions/refused.txt");
+    let encoded = encode(text, Checks::Bytes).expect("the bytes can express it");
+    assert_eq!(encoded, stored_input("desk_refused"));
+    // Two calls and two bytes get no line.
+    assert_eq!(encoded.len() - first_call(&encoded), 2 * CALL + 2);
+    assert_eq!(desk::run(&encoded), "sheet refused I-6\n");
+}
+
+#[test]
 fn outputs_are_what_is_printed() {
     let folders = fs::read_dir(crates()).expect("the crates can be listed");
     let names = folders.map(|folder| folder.expect("a crate can be listed").file_name());
     let names = names.filter_map(|name| name.into_string().ok());
     let desks: Vec<String> = names.filter(|name| name.starts_with("desk")).collect();
-    assert!(desks.len() >= 7, "{desks:?}");
+    assert!(desks.len() >= 9, "{desks:?}");
     for name in desks {
         let stored = read(crates().join(&name).join("stdout"));
         let printed = desk::run(&stored_input(&name));
