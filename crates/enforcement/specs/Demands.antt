@@ -53,8 +53,8 @@ pub record InTime (a : Automaton) (b : Monitor) (c t : ℕ) : Type 0 where
   pub current : b .date ≤ t
 
 -- For a list of calls from a fresh monitor of the model: the outcomes are the history's, which is the only one, and the monitor stands for it, with its
--- date, pending actions and schedule; the lamp is lit exactly when no run of further offers could get one more action scheduled, which is document 01's rule; once lit, it is lit after
--- every longer list, and there every offer that is not refused for its action or date is dropped.
+-- date, pending actions and schedule; the lamp is lit exactly when no run of further offers could get one more action scheduled, which is document 01's
+-- rule; once lit, it is lit after every longer list, and there every offer that is not refused for its action or date is dropped.
 pub record ModelDemand3 (a : Automaton) (ks : List Call) : Type 0 where
   pub history : History
   pub recorded : HistoryOf a (fresh a) ks (calls a ks .outcomes) history
