@@ -68,7 +68,7 @@ answerFor lit a = Lit
 answerFor dark a = Dark
 answerFor (refused q) a = a
 
--- An answer is determined by its outcome.
+-- An answer is determined by its outcome, save for the count that "held" carries and the reason.
 determined : (a : Answer) → answerFor (outcomeOf a) a ≡ a
 determined (Scheduled n d) = refl
 determined (Held n) = refl
