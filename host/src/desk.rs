@@ -1,24 +1,89 @@
 //! The desk program: reads its whole input and makes its lines.
 
+use crate::lines::{push_answer, push_number, push_word};
 use crate::monitor::{Answer, Monitor};
 use crate::refusal::Refusal;
 use crate::sheet::{self, Automaton};
-use std::fmt;
+use std::io::{self, Read, Write};
+use std::process::ExitCode;
 
 /// Bytes of one call: the action or the collection mark, and the date.
 pub const CALL: usize = 5;
 /// The first byte of a call that is a collection.
 pub const COLLECTION: u8 = 255;
 
+/// A box, as the desk program uses it.
+pub trait Calls {
+    /// A fresh box.
+    fn fresh(automaton: Automaton) -> Self;
+    /// Offers an action at a date.
+    fn offer(&mut self, action: u8, date: u32) -> Answer;
+    /// Collects the oldest scheduled action if it is due at a date.
+    fn collect(&mut self, date: u32) -> Answer;
+    /// Whether the lamp is lit.
+    fn lamp(&self) -> bool;
+}
+
+impl Calls for Monitor {
+    fn fresh(automaton: Automaton) -> Self {
+        Monitor::new(automaton)
+    }
+
+    fn offer(&mut self, action: u8, date: u32) -> Answer {
+        Monitor::offer(self, action, date)
+    }
+
+    fn collect(&mut self, date: u32) -> Answer {
+        Monitor::collect(self, date)
+    }
+
+    fn lamp(&self) -> bool {
+        Monitor::lamp(self)
+    }
+}
+
 /// Gives all lines that the desk program prints for an input.
 pub fn run(input: &[u8]) -> String {
+    run_with::<Monitor>(input)
+}
+
+/// Gives all lines, worked out with a box of some kind.
+pub fn run_with<M: Calls>(input: &[u8]) -> String {
     let Some((bytes, calls)) = split(input) else {
         return refused_sheet(Refusal::I1);
     };
     match sheet::read(bytes) {
-        Ok(automaton) => header(&automaton) + &call_lines(automaton, calls),
+        Ok(automaton) => {
+            let mut lines = header(&automaton).into_bytes();
+            call_lines(&mut M::fresh(automaton), calls, &mut lines);
+            String::from_utf8(lines).expect("all lines are text")
+        }
         Err(refusal) => refused_sheet(refusal),
     }
+}
+
+/// Runs as a program that takes no arguments: from standard input to standard
+/// output.
+pub fn main_with<M: Calls>(name: &str) -> ExitCode {
+    if std::env::args_os().len() > 1 {
+        eprintln!("usage: {name} < input");
+        return ExitCode::from(2);
+    }
+    match answer_with::<M>() {
+        Ok(()) => ExitCode::SUCCESS,
+        Err(error) => {
+            eprintln!("{name}: {error}");
+            ExitCode::FAILURE
+        }
+    }
+}
+
+fn answer_with<M: Calls>() -> io::Result<()> {
+    let mut input = Vec::new();
+    io::stdin().lock().read_to_end(&mut input)?;
+    let mut out = io::stdout().lock();
+    out.write_all(run_with::<M>(&input).as_bytes())?;
+    out.flush()
 }
 
 /// Splits an input into sheet and calls; `None` if it has too few bytes.
@@ -44,41 +109,31 @@ fn header(automaton: &Automaton) -> String {
     )
 }
 
-/// A line for each call, and one for the bytes left over.
-fn call_lines(automaton: Automaton, bytes: &[u8]) -> String {
-    let mut monitor = Monitor::new(automaton);
-    let mut lines = String::new();
+/// Adds a line for each call, and one for the bytes left over.
+fn call_lines(monitor: &mut impl Calls, bytes: &[u8], lines: &mut Vec<u8>) {
     let calls = bytes.chunks_exact(CALL);
     let tail = calls.remainder().len();
+    // Most lines are shorter.
+    lines.reserve(bytes.len() / CALL * 32);
     for (index, call) in calls.enumerate() {
-        let answer = make_call(&mut monitor, call);
-        let lamp = u8::from(monitor.lamp());
-        lines += &format!("{} {answer} lamp {lamp}\n", index + 1);
+        let answer = make_call(monitor, call);
+        push_number(lines, index as u32 + 1);
+        push_answer(lines, &answer);
+        let lit = monitor.lamp();
+        lines.extend_from_slice(if lit { b" lamp 1\n" } else { b" lamp 0\n" });
     }
     if tail > 0 {
-        lines += &format!("tail {tail}\n");
+        lines.extend_from_slice(b"tail");
+        push_word(lines, tail as u32);
+        lines.push(b'\n');
     }
-    lines
 }
 
 /// Makes the call that five bytes stand for.
-fn make_call(monitor: &mut Monitor, call: &[u8]) -> Answer {
+fn make_call(monitor: &mut impl Calls, call: &[u8]) -> Answer {
     let date = u32::from_le_bytes([call[1], call[2], call[3], call[4]]);
     match call[0] {
         COLLECTION => monitor.collect(date),
         action => monitor.offer(action, date),
-    }
-}
-
-impl fmt::Display for Answer {
-    fn fmt(&self, out: &mut fmt::Formatter<'_>) -> fmt::Result {
-        match self {
-            Answer::Scheduled { count, last } => write!(out, "scheduled {count} {last}"),
-            Answer::Held(count) => write!(out, "held {count}"),
-            Answer::Dropped => write!(out, "dropped"),
-            Answer::Played(timed) => write!(out, "played {} {}", timed.action, timed.date),
-            Answer::Nothing => write!(out, "none"),
-            Answer::Refused(refusal) => write!(out, "refused {refusal}"),
-        }
     }
 }

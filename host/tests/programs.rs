@@ -10,6 +10,7 @@ use std::path::{Path, PathBuf};
 use std::process::{Command, Output};
 
 const REFERENCE: &str = env!("CARGO_BIN_EXE_reference");
+const FAST: &str = env!("CARGO_BIN_EXE_fast");
 const GENERATE: &str = env!("CARGO_BIN_EXE_generate");
 const COMPARE: &str = env!("CARGO_BIN_EXE_compare");
 
@@ -23,14 +24,16 @@ fn text(bytes: &[u8]) -> String {
 }
 
 #[test]
-fn reference_prints_lines() {
+fn lines_are_printed() {
     let input = input(A, &[(0, 1), (1, 4)]);
-    let output = run(Path::new(REFERENCE), &input, &[]).expect("the program runs");
-    let expected = "sheet 2 1 2 4 2\n1 scheduled 1 1 lamp 0\n2 scheduled 1 4 lamp 0\n";
-    assert_eq!(text(&output.stdout), expected);
-    assert!(output.status.success());
-    let output = run(Path::new(REFERENCE), &[], &[]).expect("the program runs");
-    assert_eq!(text(&output.stdout), "sheet refused I-1\n");
+    for program in [REFERENCE, FAST] {
+        let output = run(Path::new(program), &input, &[]).expect("the program runs");
+        let expected = "sheet 2 1 2 4 2\n1 scheduled 1 1 lamp 0\n2 scheduled 1 4 lamp 0\n";
+        assert_eq!(text(&output.stdout), expected);
+        assert!(output.status.success());
+        let output = run(Path::new(program), &[], &[]).expect("the program runs");
+        assert_eq!(text(&output.stdout), "sheet refused I-1\n");
+    }
 }
 
 #[test]
@@ -47,8 +50,9 @@ fn generate_writes_inputs() {
 
 #[test]
 fn wrong_arguments() {
-    let cases: [(&str, &[&str]); 12] = [
+    let cases: [(&str, &[&str]); 13] = [
         (REFERENCE, &["extra"]),
+        (FAST, &["extra"]),
         (GENERATE, &[]),
         (GENERATE, &["one_clock"]),
         (GENERATE, &["no_such_kind", "1"]),

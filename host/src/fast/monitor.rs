@@ -1,0 +1,165 @@
+//! The box: its state and its calls offer, collect and lamp.
+
+use super::cost::correction;
+use super::limits::{BATCH, CAP};
+use super::liveness::Deadlines;
+use super::reach::{is_lit, outlook, Outlook};
+use super::sheet::{waited, Configuration, Sheet};
+use crate::desk::Calls;
+use crate::limits::{LAST_DATE, MAX_PENDING, MAX_SCHEDULED};
+use crate::monitor::Answer;
+use crate::refusal::Refusal;
+use crate::runs::TimedAction;
+use crate::sheet::Automaton;
+
+/// The box.
+#[derive(Clone, Debug)]
+pub struct Monitor {
+    sheet: Sheet,
+    deadlines: Deadlines,
+    date: u32,
+    pending: [u8; MAX_PENDING],
+    held: usize,
+    schedule: [TimedAction; MAX_SCHEDULED],
+    planned: usize,
+    /// Where the last action ever scheduled led, and its date.
+    reached: Configuration,
+    last: u32,
+}
+
+impl Monitor {
+    /// The first date that a timing from a date on may use, and the
+    /// configuration at that date.
+    #[inline]
+    fn start(&self, date: u32) -> (u32, Configuration) {
+        let start = date.max(self.last);
+        let ticks = (start - self.last).min(CAP.into()) as u8;
+        let readings = waited(self.reached.readings, ticks);
+        let location = self.reached.location;
+        (start, Configuration { location, readings })
+    }
+
+    /// The checks of a call's date, I-8 then S-1.
+    #[inline]
+    fn check_date(&self, date: u32) -> Result<(), Refusal> {
+        if date > LAST_DATE {
+            Err(Refusal::I8)
+        } else if date < self.date {
+            Err(Refusal::S1)
+        } else {
+            Ok(())
+        }
+    }
+
+    fn try_offer(&mut self, action: u8, date: u32) -> Result<Answer, Refusal> {
+        if action >= self.sheet.actions {
+            return Err(Refusal::I7);
+        }
+        self.check_date(date)?;
+        let mut list = [0; BATCH];
+        list[..self.held].copy_from_slice(&self.pending[..self.held]);
+        list[self.held] = action;
+        let list = &list[..=self.held];
+        let (start, from) = self.start(date);
+        let answer = match outlook(&self.sheet, &self.deadlines, list, from) {
+            Outlook::Correct => self.schedule_all(list, start, from)?,
+            Outlook::Extensible => self.hold(action)?,
+            Outlook::Dead => Answer::Dropped,
+        };
+        self.date = date;
+        Ok(answer)
+    }
+
+    /// Adds the first correction to the schedule and empties the pending list.
+    fn schedule_all(
+        &mut self,
+        list: &[u8],
+        start: u32,
+        from: Configuration,
+    ) -> Result<Answer, Refusal> {
+        let room = list.len() <= MAX_SCHEDULED - self.planned;
+        // No wait of a first correction is longer than the cap, so that far from
+        // the last date it cannot end too late, and without room it is not needed.
+        if !room && start <= LAST_DATE - u32::from(CAP) * BATCH as u32 {
+            return Err(Refusal::S3);
+        }
+        let found = correction(&self.sheet, list, from, start);
+        if found.last > LAST_DATE {
+            return Err(Refusal::S2);
+        }
+        if !room {
+            return Err(Refusal::S3);
+        }
+        let free = &mut self.schedule[self.planned..];
+        for (place, (action, date)) in free.iter_mut().zip(list.iter().zip(found.dates)) {
+            *place = TimedAction {
+                action: *action,
+                date,
+            };
+        }
+        self.planned += list.len();
+        self.held = 0;
+        self.reached = found.reached;
+        self.last = found.last;
+        Ok(Answer::Scheduled {
+            count: list.len(),
+            last: found.last,
+        })
+    }
+
+    /// Adds an action to the pending list.
+    fn hold(&mut self, action: u8) -> Result<Answer, Refusal> {
+        if self.held == MAX_PENDING {
+            return Err(Refusal::S4);
+        }
+        self.pending[self.held] = action;
+        self.held += 1;
+        Ok(Answer::Held(self.held))
+    }
+}
+
+impl Calls for Monitor {
+    fn fresh(automaton: Automaton) -> Self {
+        let sheet = Sheet::new(&automaton);
+        let second = if sheet.clocks == 1 { CAP } else { 0 };
+        Monitor {
+            deadlines: Deadlines::new(&sheet),
+            date: 0,
+            pending: [0; MAX_PENDING],
+            held: 0,
+            schedule: [TimedAction { action: 0, date: 0 }; MAX_SCHEDULED],
+            planned: 0,
+            reached: Configuration {
+                location: sheet.initial,
+                readings: [0, second],
+            },
+            last: 0,
+            sheet,
+        }
+    }
+
+    fn offer(&mut self, action: u8, date: u32) -> Answer {
+        let answer = self.try_offer(action, date);
+        answer.unwrap_or_else(Answer::Refused)
+    }
+
+    fn collect(&mut self, date: u32) -> Answer {
+        if let Err(refusal) = self.check_date(date) {
+            return Answer::Refused(refusal);
+        }
+        self.date = date;
+        let oldest = self.schedule[0];
+        if self.planned == 0 || date < oldest.date {
+            return Answer::Nothing;
+        }
+        self.schedule.copy_within(1..self.planned, 0);
+        self.planned -= 1;
+        Answer::Played(oldest)
+    }
+
+    fn lamp(&self) -> bool {
+        let (_, from) = self.start(self.date);
+        let pending = &self.pending[..self.held];
+        is_lit(&self.sheet, &self.deadlines, pending, from)
+    }
+}

@@ -1,0 +1,26 @@
+//! The box written for speed against the reference, over inputs of every kind.
+
+use host::desk::{run, run_with};
+use host::fast::Monitor;
+use host::generate::KINDS;
+
+/// Seeds per kind; other ones than those of the gate, mostly.
+const SEEDS: std::ops::Range<u64> = 250..370;
+
+fn same(name: &str, input: &[u8]) {
+    let (expected, found) = (run(input), run_with::<Monitor>(input));
+    let mut lines = expected.lines().zip(found.lines());
+    if let Some((expected, found)) = lines.find(|(expected, found)| expected != found) {
+        panic!("{name}: {found} instead of {expected}");
+    }
+    assert_eq!(expected.len(), found.len(), "{name}");
+}
+
+#[test]
+fn same_lines_for_every_kind() {
+    for kind in KINDS {
+        for seed in SEEDS {
+            same(&format!("{}, seed {seed}", kind.name), &kind.input(seed));
+        }
+    }
+}
