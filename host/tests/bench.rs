@@ -3,8 +3,8 @@
 mod common;
 
 use common::fresh;
-use host::bench::{heaviest, loading, Counter, Folder, Input, Kind, Programs, Stop};
-use host::bench::{KINDS, LOADING, WORST};
+use host::bench::{heaviest, loading, Counter, Figures, Folder, Input, Kind};
+use host::bench::{Measured, Programs, Stop, KINDS, LOADING, WORST};
 use host::desk::{self, CALL, COLLECTION};
 use host::monitor::{Answer, Monitor};
 use host::runs::{Configuration, Reached};
@@ -12,11 +12,12 @@ use host::sets::CAP;
 use host::sheet::{self, Automaton};
 use host::tally::Tally;
 use std::collections::HashSet;
-use std::path::Path;
+use std::path::{Path, PathBuf};
 use std::process::{Command, Output};
 
 const BENCH: &str = env!("CARGO_BIN_EXE_bench");
 const REFERENCE: &str = env!("CARGO_BIN_EXE_reference");
+const FAST: &str = env!("CARGO_BIN_EXE_fast");
 
 fn kind(name: &str) -> &'static Kind {
     let mut all = KINDS.iter().chain(WORST);
@@ -63,6 +64,15 @@ fn counted(input: &Input) -> Vec<String> {
     output.lines().skip(skipped).map(String::from).collect()
 }
 
+/// A part is the base and the first calls.
+fn check_parts(input: &Input) {
+    assert_eq!(input.part(0), input.base);
+    assert_eq!(input.part(1).len(), input.base.len() + CALL);
+    assert!(input.whole.starts_with(input.part(1)));
+    assert_eq!(input.part(input.count), input.whole);
+    assert_eq!(input.part(usize::MAX), input.whole);
+}
+
 #[test]
 fn inputs_load_and_are_always_the_same() {
     for kind in KINDS.iter().chain(WORST) {
@@ -75,6 +85,7 @@ fn inputs_load_and_are_always_the_same() {
             assert!(input.whole.starts_with(&input.base));
             assert_eq!(counted(input).len(), input.count);
             assert_eq!(input.whole.len(), input.base.len() + CALL * input.count);
+            check_parts(input);
         }
     }
 }
@@ -233,9 +244,11 @@ fn worst_offers() {
 
 #[test]
 fn loading_takes_the_largest_sheets() {
-    let sheets = loading::sheets();
+    let mut sheets = loading::sheets();
+    sheets.push(loading::long_way());
     sheets.iter().for_each(|bytes| check_largest(bytes));
-    let inputs = LOADING.inputs(1);
+    let inputs = LOADING.iter().flat_map(|kind| kind.inputs(kind.calls));
+    let inputs: Vec<Input> = inputs.collect();
     assert_eq!(inputs.len(), sheets.len());
     for (input, bytes) in inputs.iter().zip(&sheets) {
         assert_eq!(sheet_bytes(input), bytes);
@@ -288,21 +301,47 @@ fn wrong_arguments() {
     }
 }
 
-/// Measures a program on a small input of sheet A.
-fn measure(program: &Path) -> Result<usize, Stop> {
+/// Measures a program on a small input of sheet A, of which the reference is
+/// given some calls.
+fn measure(program: &Path, few: usize) -> Result<Measured, Stop> {
     let programs = Programs {
         program: program.to_path_buf(),
         reference: REFERENCE.into(),
+        fast: FAST.into(),
     };
     let inputs = kind("sheet A, single commands").inputs(20);
-    let measured = programs.measure(&Folder::new()?, &inputs, 1)?;
-    Ok(measured.count)
+    programs.measure(&Folder::new()?, &inputs, 3, few)
 }
 
 #[test]
 fn equal_outputs_are_measured() {
-    let count = measure(Path::new(REFERENCE)).expect("no difference");
-    assert_eq!(count, 20);
+    for few in [0, 1, 19, 20, usize::MAX] {
+        let measured = measure(Path::new(REFERENCE), few).expect("no difference");
+        assert_eq!(measured.count, 20);
+    }
+}
+
+#[test]
+fn each_program_comes_first_in_a_third_of_the_rounds() {
+    let mut kinds = KINDS.iter().chain(WORST).chain(LOADING);
+    assert!(kinds.all(|kind| kind.rounds.is_multiple_of(3)));
+}
+
+#[test]
+fn ratios_say_how_much_more_the_others_need() {
+    let figures = Figures {
+        program: 2.0,
+        reference: 6.0,
+        fast: 1.0,
+    };
+    assert_eq!(figures.to_reference(), Some(3.0));
+    assert_eq!(figures.to_fast(), Some(0.5));
+    let lost = Figures {
+        reference: f64::NAN,
+        fast: -1.0,
+        ..figures
+    };
+    assert_eq!((lost.to_reference(), lost.to_fast()), (None, None));
 }
 
 #[test]
@@ -320,24 +359,32 @@ fn folders_go() {
 
 #[test]
 fn instructions_are_counted_where_they_can_be() {
-    let Some(counter) = Counter::find(Path::new(REFERENCE)) else {
+    let Some(counter) = Counter::find() else {
         return;
     };
     let folder = Folder::new().expect("a folder can be made");
     let inputs = kind("sheet A, single commands").inputs(20);
-    let count = counter.per_call(&folder, &inputs).expect("the tool runs");
+    let count = counter.per_call(&folder, Path::new(REFERENCE), &inputs);
+    let count = count.expect("the tool runs");
     assert!(count.is_none_or(|count| count > 100.0), "{count:?}");
+}
+
+/// A program that changes the lines of the reference from some line on.
+#[cfg(unix)]
+fn wrong_program(name: &str, from: usize) -> PathBuf {
+    use std::os::unix::fs::PermissionsExt;
+    let path = Path::new(env!("CARGO_TARGET_TMPDIR")).join(name);
+    let body = format!("#!/bin/sh\n'{REFERENCE}' | sed '{from},$s/played 1/played 0/'\n");
+    std::fs::write(&path, body).expect("the script is written");
+    let mode = std::fs::Permissions::from_mode(0o755);
+    std::fs::set_permissions(&path, mode).expect("the script can be run");
+    path
 }
 
 #[cfg(unix)]
 #[test]
 fn a_difference_ends_it() {
-    use std::os::unix::fs::PermissionsExt;
-    let path = Path::new(env!("CARGO_TARGET_TMPDIR")).join("bench-dark.sh");
-    let body = format!("#!/bin/sh\n'{REFERENCE}' | sed 's/played 1/played 0/'\n");
-    std::fs::write(&path, body).expect("the script is written");
-    let mode = std::fs::Permissions::from_mode(0o755);
-    std::fs::set_permissions(&path, mode).expect("the script can be run");
+    let path = wrong_program("bench-dark.sh", 1);
     let output = call(&[&path.to_string_lossy()]);
     assert_eq!(output.status.code(), Some(1));
     let text = String::from_utf8_lossy(&output.stdout);
@@ -346,8 +393,25 @@ fn a_difference_ends_it() {
         "{text}"
     );
     assert!(text.contains("played 1 ") && text.contains("played 0 "));
+    assert!(text.contains("bench-dark.sh\" ended with "), "{text}");
     let input = text.lines().find_map(|line| line.strip_prefix("input: "));
     let input = input.expect("the input was written");
     assert!(desk::run(&std::fs::read(input).expect("it can be read")).contains("played 1 "));
     std::fs::remove_file(input).expect("it can be removed");
+}
+
+/// Where the reference has no lines, those of the program written for speed
+/// are compared with.
+#[cfg(unix)]
+#[test]
+fn a_late_difference_is_seen() {
+    let path = wrong_program("bench-late.sh", 10);
+    for few in [2, 20] {
+        let Err(Stop::Difference(difference)) = measure(&path, few) else {
+            panic!("no difference");
+        };
+        assert_eq!((difference.line, &difference.program), (13, &path));
+        let input = difference.input.expect("the input was written");
+        std::fs::remove_file(input).expect("it can be removed");
+    }
 }

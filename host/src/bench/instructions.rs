@@ -4,35 +4,36 @@
 use super::measure::{Folder, Stop};
 use super::Input;
 use std::fs::File;
-use std::path::{Path, PathBuf};
+use std::path::Path;
 use std::process::{Command, Stdio};
 
 /// The tool that counts.
 const TOOL: &str = "valgrind";
 
-/// Counts the instructions of one program.
-#[derive(Clone, Debug)]
-pub struct Counter {
-    program: PathBuf,
-}
+/// Counts the instructions of programs.
+#[derive(Clone, Copy, Debug)]
+pub struct Counter(());
 
 impl Counter {
     /// A counter, if the machine has the tool.
-    pub fn find(program: &Path) -> Option<Self> {
+    pub fn find() -> Option<Self> {
         let version = Command::new(TOOL).arg("--version").output();
         let works = version.is_ok_and(|output| output.status.success());
-        works.then(|| Counter {
-            program: program.to_path_buf(),
-        })
+        works.then_some(Counter(()))
     }
 
-    /// Instructions per counted call or load, over all inputs; `None` if the
-    /// tool gives no number.
-    pub fn per_call(&self, folder: &Folder, inputs: &[Input]) -> Result<Option<f64>, Stop> {
+    /// Instructions of a program per counted call or load, over all inputs;
+    /// `None` if the tool gives no number.
+    pub fn per_call(
+        &self,
+        folder: &Folder,
+        program: &Path,
+        inputs: &[Input],
+    ) -> Result<Option<f64>, Stop> {
         let (mut instructions, mut calls) = (0.0, 0);
         for input in inputs {
-            let whole = self.count(folder, &input.whole)?;
-            let base = self.count(folder, &input.base)?;
+            let whole = self.count(folder, program, &input.whole)?;
+            let base = self.count(folder, program, &input.base)?;
             let (Some(whole), Some(base)) = (whole, base) else {
                 return Ok(None);
             };
@@ -43,7 +44,7 @@ impl Counter {
     }
 
     /// The instructions of one run.
-    fn count(&self, folder: &Folder, input: &[u8]) -> Result<Option<u64>, Stop> {
+    fn count(&self, folder: &Folder, program: &Path, input: &[u8]) -> Result<Option<u64>, Stop> {
         let path = folder.write("counted", input)?;
         let stdin = File::open(path).map_err(Stop::Files)?;
         let mut profile = std::ffi::OsString::from("--callgrind-out-file=");
@@ -51,7 +52,7 @@ impl Counter {
         let output = Command::new(TOOL)
             .arg("--tool=callgrind")
             .arg(profile)
-            .arg(&self.program)
+            .arg(program)
             .stdin(Stdio::from(stdin))
             .output()
             .map_err(|error| Stop::NotRun(TOOL.into(), error))?;

@@ -1,4 +1,9 @@
 //! The largest sheets, without calls.
+//!
+//! A run loads one sheet, so that a load is the difference between a run with
+//! a sheet and one without. Even the best of many runs without a sheet varies
+//! by more than a fast load takes. So the instructions are counted too, where
+//! the machine has the tool, and times below that noise are not given.
 
 use super::heaviest::{late_correction, many_states};
 use super::script::with_length;
@@ -10,11 +15,17 @@ use crate::sheet::{RULE, UNBOUNDED};
 /// How many random sheets are loaded.
 const RANDOM: u64 = 3;
 
-/// One load of each sheet; what is not counted is a run without a sheet.
-pub fn loads(_calls: usize) -> Vec<Input> {
+/// One load of each of the largest sheets.
+pub fn largest(_calls: usize) -> Vec<Input> {
     sheets().iter().map(|sheet| load(sheet)).collect()
 }
 
+/// A load of the sheet with a long way.
+pub fn longest(_calls: usize) -> Vec<Input> {
+    vec![load(&long_way())]
+}
+
+/// What is not counted is a run without a sheet.
 fn load(sheet: &[u8]) -> Input {
     Input {
         base: Vec::new(),
@@ -23,10 +34,10 @@ fn load(sheet: &[u8]) -> Input {
     }
 }
 
-/// Sheets of 518 bytes: random ones, the heaviest, and one with a long way.
+/// Sheets of 518 bytes: random ones, and the heaviest.
 pub fn sheets() -> Vec<Vec<u8>> {
     let mut sheets: Vec<_> = (0..RANDOM).map(random_sheet).collect();
-    sheets.extend([many_states(), late_correction(), long_way()]);
+    sheets.extend([many_states(), late_correction()]);
     sheets
 }
 

@@ -1,4 +1,4 @@
-//! Runs two programs on the same inputs by turns and keeps the best times.
+//! Runs three programs on the same inputs by turns and keeps the best times.
 
 use super::Input;
 use std::fs::{self, File};
@@ -8,11 +8,12 @@ use std::process::{Command, ExitStatus, Stdio};
 use std::time::{Duration, Instant};
 use std::{env, fmt, process};
 
-/// The program to be measured, and the one it is measured against.
+/// The program to be measured, and those it is measured against.
 #[derive(Clone, Debug)]
 pub struct Programs {
     pub program: PathBuf,
     pub reference: PathBuf,
+    pub fast: PathBuf,
 }
 
 /// Why a measurement stopped.
@@ -31,21 +32,24 @@ pub enum Stop {
 pub struct Difference {
     /// The kind of the input, if it is known.
     pub kind: &'static str,
+    /// The program that printed it.
+    pub program: PathBuf,
     /// Where the input was written, if it could be.
     pub input: Option<PathBuf>,
     /// Number of the line, from 1.
     pub line: usize,
     pub expected: String,
     pub found: String,
-    /// How the program ended.
+    /// How that program ended.
     pub status: String,
 }
 
-/// Best times of both programs, in seconds.
+/// A figure for each program; one that is not known is no number.
 #[derive(Clone, Copy, Debug, Default, PartialEq)]
-pub struct Pair {
+pub struct Figures {
     pub program: f64,
     pub reference: f64,
+    pub fast: f64,
 }
 
 /// What some inputs took.
@@ -53,10 +57,10 @@ pub struct Pair {
 pub struct Measured {
     /// Calls, or loads, that were counted.
     pub count: usize,
-    /// Times for these, what the base takes subtracted.
-    pub counted: Pair,
-    /// Times for the bases.
-    pub base: Pair,
+    /// Seconds for one of these, what the base takes subtracted.
+    pub each: Figures,
+    /// Seconds for all bases.
+    pub base: Figures,
 }
 
 /// A folder for inputs and outputs that goes when it is no longer used.
@@ -108,66 +112,156 @@ struct Run {
 }
 
 impl Programs {
-    /// Measures inputs, each so many times by turns.
+    /// Measures inputs, each so many times by turns. The reference is given at
+    /// most `few` calls of an input.
     pub fn measure(
         &self,
         folder: &Folder,
         inputs: &[Input],
         rounds: usize,
+        few: usize,
     ) -> Result<Measured, Stop> {
-        let mut sum = Measured::default();
+        let (mut count, mut part) = (0, 0);
+        let (mut counted, mut base) = (Figures::default(), Figures::default());
         for input in inputs {
-            let base = folder.write("base", &input.base)?;
-            let whole = folder.write("whole", &input.whole)?;
-            let (mut best_base, mut best_whole) = (Pair::never(), Pair::never());
-            for _ in 0..rounds {
-                best_whole.improve(self.run_both(folder, &whole)?);
-                best_base.improve(self.run_both(folder, &base)?);
-            }
-            sum.count += input.count;
-            sum.counted.program += best_whole.program - best_base.program;
-            sum.counted.reference += best_whole.reference - best_base.reference;
-            sum.base.program += best_base.program;
-            sum.base.reference += best_base.reference;
+            let (best_whole, best_base) = self.best(folder, input, rounds, few)?;
+            count += input.count;
+            part += input.count.min(few);
+            counted = counted.with(best_whole, |sum, whole| sum + whole);
+            counted = counted.with(best_base, |sum, base| sum - base);
+            base = base.with(best_base, |sum, base| sum + base);
         }
-        Ok(sum)
+        let counts = Figures {
+            program: count as f64,
+            reference: part as f64,
+            fast: count as f64,
+        };
+        Ok(Measured {
+            count,
+            each: counted.with(counts, |time, count| time / count),
+            base,
+        })
     }
 
-    /// Runs both programs on an input and compares what they print.
-    fn run_both(&self, folder: &Folder, input: &Path) -> Result<Pair, Stop> {
-        let found = run(&self.program, input, folder)?;
-        let expected = run(&self.reference, input, folder)?;
-        // No exit status means that the program was broken off.
-        if found.output != expected.output || found.status.code().is_none() {
-            let mut difference = difference(&expected, &found);
-            difference.input = keep(input);
-            return Err(Stop::Difference(Box::new(difference)));
+    /// The best times for an input and for its base.
+    fn best(
+        &self,
+        folder: &Folder,
+        input: &Input,
+        rounds: usize,
+        few: usize,
+    ) -> Result<(Figures, Figures), Stop> {
+        let base = folder.write("base", &input.base)?;
+        let whole = folder.write("whole", &input.whole)?;
+        let part = match input.part(few) {
+            part if part.len() < input.whole.len() => folder.write("part", part)?,
+            _ => whole.clone(),
+        };
+        let never = Figures::all(f64::INFINITY);
+        let (mut best_whole, mut best_base) = (never, never);
+        for round in 0..rounds {
+            let times = self.run_all(folder, &whole, &part, round)?;
+            best_whole = best_whole.with(times, f64::min);
+            let times = self.run_all(folder, &base, &base, round)?;
+            best_base = best_base.with(times, f64::min);
         }
-        Ok(Pair {
-            program: found.time.as_secs_f64(),
-            reference: expected.time.as_secs_f64(),
+        Ok((best_whole, best_base))
+    }
+
+    /// Runs the programs on an input, the reference on a part of it. Each comes
+    /// first in one of three rounds, as what ran before has an effect.
+    fn run_three(
+        &self,
+        folder: &Folder,
+        input: &Path,
+        part: &Path,
+        round: usize,
+    ) -> Result<[Run; 3], Stop> {
+        let first = round % 3;
+        let mut tasks = [
+            (&self.program, input),
+            (&self.reference, part),
+            (&self.fast, input),
+        ];
+        tasks.rotate_left(first);
+        let run = |(program, input): (&PathBuf, &Path)| run(program, input, folder);
+        let mut runs = [run(tasks[0])?, run(tasks[1])?, run(tasks[2])?];
+        runs.rotate_right(first);
+        Ok(runs)
+    }
+
+    /// Runs the programs and compares what they print.
+    fn run_all(
+        &self,
+        folder: &Folder,
+        input: &Path,
+        part: &Path,
+        round: usize,
+    ) -> Result<Figures, Stop> {
+        let [program, mut reference, fast] = self.run_three(folder, input, part, round)?;
+        if input != part {
+            // Beyond its part there is nothing to compare with.
+            let more = fast.output.get(reference.output.len()..);
+            reference.output.extend_from_slice(more.unwrap_or(&[]));
+        }
+        for (path, found) in [(&self.fast, &fast), (&self.program, &program)] {
+            // No exit status means that the program was broken off.
+            if found.output != reference.output || found.status.code().is_none() {
+                let mut difference = difference(&reference, found);
+                difference.program = path.clone();
+                difference.input = keep(input);
+                return Err(Stop::Difference(Box::new(difference)));
+            }
+        }
+        Ok(Figures {
+            program: program.time.as_secs_f64(),
+            reference: reference.time.as_secs_f64(),
+            fast: fast.time.as_secs_f64(),
         })
     }
 }
 
-impl Pair {
-    fn never() -> Self {
-        Pair {
-            program: f64::INFINITY,
-            reference: f64::INFINITY,
+impl Figures {
+    /// The same figure for all.
+    fn all(figure: f64) -> Self {
+        Figures {
+            program: figure,
+            reference: figure,
+            fast: figure,
         }
     }
 
-    fn improve(&mut self, other: Pair) {
-        self.program = self.program.min(other.program);
-        self.reference = self.reference.min(other.reference);
+    /// The figures, each joined with another one.
+    fn with(self, other: Figures, join: fn(f64, f64) -> f64) -> Self {
+        Figures {
+            program: join(self.program, other.program),
+            reference: join(self.reference, other.reference),
+            fast: join(self.fast, other.fast),
+        }
     }
 
-    /// How many times as long the reference takes, if both times say anything.
-    pub fn ratio(&self) -> Option<f64> {
-        let both = self.program > 0.0 && self.reference > 0.0;
-        both.then(|| self.reference / self.program)
+    /// The figures, each made another one.
+    pub fn map(self, make: impl Fn(f64) -> f64) -> Self {
+        Figures {
+            program: make(self.program),
+            reference: make(self.reference),
+            fast: make(self.fast),
+        }
     }
+
+    /// How many times as much the reference needs, if both figures say anything.
+    pub fn to_reference(&self) -> Option<f64> {
+        ratio(self.reference, self.program)
+    }
+
+    /// How many times as much the program written for speed needs.
+    pub fn to_fast(&self) -> Option<f64> {
+        ratio(self.fast, self.program)
+    }
+}
+
+fn ratio(other: f64, own: f64) -> Option<f64> {
+    (other > 0.0 && own > 0.0).then(|| other / own)
 }
 
 /// Runs a program from file to file.
@@ -198,6 +292,7 @@ fn difference(expected: &Run, found: &Run) -> Difference {
         if pair.0 != pair.1 || pair.0.is_none() {
             return Difference {
                 kind: "",
+                program: PathBuf::new(),
                 input: None,
                 line,
                 expected: show(pair.0),
@@ -253,7 +348,8 @@ impl fmt::Display for Difference {
         writeln!(out, "difference: {}, line {}", self.kind, self.line)?;
         writeln!(out, "  expected: {}", self.expected)?;
         writeln!(out, "  found:    {}", self.found)?;
-        writeln!(out, "the program ended with {}", self.status)?;
+        let program = self.program.to_string_lossy();
+        writeln!(out, "{program:?} ended with {}", self.status)?;
         match &self.input {
             Some(path) => write!(out, "input: {}", path.display()),
             None => write!(out, "the input could not be written"),

@@ -1,4 +1,4 @@
-//! A benchmark: desk inputs, and what two programs need for them. Times are
+//! A benchmark: desk inputs, and what three programs need for them. Times are
 //! compared within one run only.
 
 mod course;
@@ -12,11 +12,12 @@ mod report;
 mod script;
 
 pub use instructions::Counter;
-pub use measure::{Difference, Folder, Measured, Pair, Programs, Stop};
+pub use measure::{Difference, Figures, Folder, Measured, Programs, Stop};
 pub use report::report;
 
+use crate::desk::CALL;
 use course::single;
-use heaviest::{batches_late, batches_many};
+use heaviest::{batches_late, batches_many, dropped, held_too_many, no_room_late, no_room_many};
 use held::{one_clock as long_one, two_clocks as long_two};
 
 /// A desk input, and the part of it that is not counted.
@@ -30,14 +31,29 @@ pub struct Input {
     pub count: usize,
 }
 
+impl Input {
+    /// The base and at most so many calls.
+    pub fn part(&self, few: usize) -> &[u8] {
+        if few < self.count {
+            &self.whole[..self.base.len() + CALL * few]
+        } else {
+            &self.whole
+        }
+    }
+}
+
 /// A kind of inputs that share a row of the table.
 pub struct Kind {
     pub name: &'static str,
     /// Calls to be timed, over all inputs.
     pub calls: usize,
+    /// Calls of an input that the reference is given at most. It has fewer
+    /// where it is much slower; the calls of such a kind are all alike.
+    pub few: usize,
     /// Calls whose instructions are counted, over all inputs.
     pub short: usize,
-    /// How often each program is timed.
+    /// How often each program is timed: a multiple of three, as each comes first
+    /// in a third of the rounds.
     pub rounds: usize,
     make: fn(usize) -> Vec<Input>,
 }
@@ -49,13 +65,17 @@ impl Kind {
     }
 }
 
-/// A kind from its name, the calls to be timed and to be counted, the rounds,
-/// and the function that makes its inputs.
-const fn kind(name: &'static str, numbers: [usize; 3], make: fn(usize) -> Vec<Input>) -> Kind {
-    let [calls, short, rounds] = numbers;
+/// No limit for the reference.
+const ALL: usize = usize::MAX;
+
+/// A kind from its name, the calls to be timed, for the reference at most, and
+/// to be counted, the rounds, and the function that makes its inputs.
+const fn kind(name: &'static str, numbers: [usize; 4], make: fn(usize) -> Vec<Input>) -> Kind {
+    let [calls, few, short, rounds] = numbers;
     Kind {
         name,
         calls,
+        few,
         short,
         rounds,
         make,
@@ -64,23 +84,34 @@ const fn kind(name: &'static str, numbers: [usize; 3], make: fn(usize) -> Vec<In
 
 /// The kinds whose times are per call. Of the heaviest few are enough.
 pub const KINDS: &[Kind] = &[
-    kind("sheet A, single commands", [80_000, 2_000, 15], single),
-    kind("one clock", [40_000, 1_600, 15], mixed::one_clock),
-    kind("two clocks", [40_000, 1_600, 15], mixed::two_clocks),
-    kind("long held lists, one clock", [40_000, 800, 7], long_one),
-    kind("long held lists, two clocks", [40_000, 800, 3], long_two),
-    kind("heaviest, many states", [680, 34, 5], batches_many),
-    kind("heaviest, late correction", [34, 34, 5], batches_late),
+    kind("sheet A, single commands", [80_000, ALL, 2_000, 30], single),
+    kind("one clock", [40_000, ALL, 1_600, 30], mixed::one_clock),
+    kind("two clocks", [40_000, ALL, 1_600, 30], mixed::two_clocks),
+    kind(
+        "long held lists, one clock",
+        [40_000, ALL, 800, 6],
+        long_one,
+    ),
+    kind(
+        "long held lists, two clocks",
+        [20_000, ALL, 800, 6],
+        long_two,
+    ),
+    kind("heaviest, many states", [680, ALL, 34, 6], batches_many),
+    kind("heaviest, late correction", [680, 34, 34, 6], batches_late),
 ];
 
 /// The kinds that repeat one offer each, so often that it takes longer than the
 /// offers before it, whose noise it would be lost in otherwise.
 pub const WORST: &[Kind] = &[
-    kind("many states, S-4", [200, 4, 5], heaviest::held_too_many),
-    kind("many states, dropped", [200, 4, 5], heaviest::dropped),
-    kind("many states, S-3", [40, 2, 7], heaviest::no_room_many),
-    kind("late correction, S-3", [40, 1, 3], heaviest::no_room_late),
+    kind("many states, S-4", [200, ALL, 4, 6], held_too_many),
+    kind("many states, dropped", [200, ALL, 4, 6], dropped),
+    kind("many states, S-3", [200, 40, 2, 6], no_room_many),
+    kind("late correction, S-3", [200, 2, 1, 6], no_room_late),
 ];
 
-/// The kind whose times are per load.
-pub const LOADING: Kind = kind("loading", [1, 1, 200], loading::loads);
+/// The kinds whose times are per load.
+pub const LOADING: &[Kind] = &[
+    kind("largest sheets", [5, ALL, 5, 210], loading::largest),
+    kind("long way, worst known", [1, ALL, 1, 150], loading::longest),
+];

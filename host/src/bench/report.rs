@@ -1,9 +1,11 @@
 //! The tables, printed row by row.
 
 use super::instructions::Counter;
-use super::measure::{Folder, Measured, Programs, Stop};
+use super::measure::{Figures, Folder, Programs, Stop};
 use super::{Input, Kind, KINDS, LOADING, WORST};
+use std::fmt::Display;
 use std::io::Write;
+use std::path::Path;
 
 /// A unit of time, and how many of it are a second.
 #[derive(Clone, Copy)]
@@ -22,72 +24,134 @@ const MILLISECONDS: Unit = Unit {
 };
 
 /// How often a run without a sheet is timed.
-const START_UPS: usize = 100;
+const START_UPS: usize = 99;
+
+/// A group of kinds with its title, and what its figures are per.
+struct Group {
+    title: &'static str,
+    per: &'static str,
+    unit: Unit,
+    /// Seconds below which a time is not told from noise.
+    noise: f64,
+    kinds: &'static [Kind],
+}
+
+const CALLS: Group = Group {
+    title: "input",
+    per: "call",
+    unit: MICROSECONDS,
+    noise: 0.0,
+    kinds: KINDS,
+};
+const OFFERS: Group = Group {
+    title: "heaviest",
+    per: "offer",
+    unit: MILLISECONDS,
+    noise: 0.0,
+    kinds: WORST,
+};
+const LOADS: Group = Group {
+    title: "loading",
+    per: "load",
+    unit: MICROSECONDS,
+    noise: 30e-6,
+    kinds: LOADING,
+};
+
+impl Group {
+    /// A time in the group's unit, if it is told from noise.
+    fn time(&self, seconds: f64) -> f64 {
+        if seconds > self.noise {
+            seconds * self.unit.per_second
+        } else {
+            f64::NAN
+        }
+    }
+
+    /// The line above a table. A ratio above 1 means that the desk program
+    /// needs less than the program before the ratio.
+    fn head(&self, unit: &str) -> String {
+        let title = format!("{}, {unit} per {}", self.title, self.per);
+        let names = ["desk", "reference", "ratio", "fast", "ratio"];
+        line(&title, &format!("{}s", self.per), names)
+    }
+}
 
 /// All that a row needs.
 struct Bench<'a> {
     programs: &'a Programs,
-    counter: Option<&'a Counter>,
+    counter: Option<Counter>,
     folder: Folder,
     out: &'a mut dyn Write,
 }
 
-/// Measures all kinds and prints the tables.
-pub fn report(
-    programs: &Programs,
-    counter: Option<&Counter>,
-    out: &mut dyn Write,
-) -> Result<(), Stop> {
+/// Measures all kinds and prints the tables. The instructions of loads are
+/// always counted if they can be, those of calls if asked for.
+pub fn report(programs: &Programs, counting: bool, out: &mut dyn Write) -> Result<(), Stop> {
     let mut bench = Bench {
         programs,
-        counter,
+        counter: Counter::find(),
         folder: Folder::new()?,
         out,
     };
-    bench.table("input", "call", MICROSECONDS, KINDS)?;
-    bench.table("heaviest, one offer", "offer", MILLISECONDS, WORST)?;
-    bench.table("largest sheets", "load", MICROSECONDS, &[LOADING])?;
+    for group in [CALLS, OFFERS] {
+        bench.times(&group)?;
+        if counting {
+            bench.instructions(&group)?;
+        }
+    }
+    bench.times(&LOADS)?;
+    bench.instructions(&LOADS)?;
     bench.start_up()
 }
 
 impl Bench<'_> {
-    /// A table of some kinds, its times per call, offer or load.
-    fn table(&mut self, title: &str, per: &str, unit: Unit, kinds: &[Kind]) -> Result<(), Stop> {
-        let head = self.head(title, per, unit);
-        self.line(&head)?;
-        for kind in kinds {
-            let row = self.row(kind, unit).map_err(|stop| stop.at(kind.name))?;
-            self.line(&row)?;
+    /// A table of the times of some kinds.
+    fn times(&mut self, group: &Group) -> Result<(), Stop> {
+        self.line(&group.head(group.unit.name))?;
+        for kind in group.kinds {
+            let inputs = kind.inputs(kind.calls);
+            let measured = self
+                .programs
+                .measure(&self.folder, &inputs, kind.rounds, kind.few)
+                .map_err(|stop| stop.at(kind.name))?;
+            let each = measured.each.map(|seconds| group.time(seconds));
+            self.line(&row(kind.name, measured.count, &each, 3))?;
         }
         self.line("")
     }
 
-    fn head(&self, title: &str, per: &str, unit: Unit) -> String {
-        let time = format!("{}/{per}", unit.name);
-        let count = format!("{per}s");
-        let program = format!("program {time}");
-        let reference = format!("reference {time}");
-        let mut head = format!(
-            "{title:<28} {count:>7} {program:>17} {reference:>19} {:>8}",
-            "ratio"
-        );
-        if self.counter.is_some() {
-            head += &format!(" {:>20}", format!("instructions/{per}"));
+    /// A table of the instructions of some kinds.
+    fn instructions(&mut self, group: &Group) -> Result<(), Stop> {
+        let Some(counter) = self.counter else {
+            return self.line("valgrind is not on this machine; instructions are not counted\n");
+        };
+        self.line(&group.head("instructions"))?;
+        for kind in group.kinds {
+            let inputs = kind.inputs(kind.short);
+            let count = inputs.iter().map(|input| input.count).sum();
+            let each = self.counts(counter, kind, &inputs)?;
+            self.line(&row(kind.name, count, &each, 0))?;
         }
-        head
+        self.line("")
     }
 
-    fn row(&self, kind: &Kind, unit: Unit) -> Result<String, Stop> {
-        let inputs = kind.inputs(kind.calls);
-        let measured = self.programs.measure(&self.folder, &inputs, kind.rounds)?;
-        let mut row = times(kind.name, &measured, unit);
-        if let Some(counter) = self.counter {
-            let inputs = kind.inputs(kind.short);
-            let count = counter.per_call(&self.folder, &inputs)?;
-            let text = count.map_or("-".into(), |count| format!("{count:.0}"));
-            row += &format!(" {text:>20}");
-        }
-        Ok(row)
+    /// Instructions for each call or load. Those of the reference are left out
+    /// where it is too slow to be given all calls.
+    fn counts(&self, counter: Counter, kind: &Kind, inputs: &[Input]) -> Result<Figures, Stop> {
+        let count = |program: &Path| {
+            let count = counter.per_call(&self.folder, program, inputs)?;
+            Ok(count.unwrap_or(f64::NAN))
+        };
+        Ok(Figures {
+            program: count(&self.programs.program)?,
+            reference: if kind.few < kind.calls {
+                f64::NAN
+            } else {
+                count(&self.programs.reference)?
+            },
+            fast: count(&self.programs.fast)?,
+        })
     }
 
     /// Tells what a run takes that does nothing.
@@ -97,11 +161,15 @@ impl Bench<'_> {
             whole: Vec::new(),
             count: 1,
         };
-        let measured = self.programs.measure(&self.folder, &[nothing], START_UPS)?;
+        let measured = self
+            .programs
+            .measure(&self.folder, &[nothing], START_UPS, 1)?;
+        let base = measured
+            .base
+            .map(|seconds| seconds * MICROSECONDS.per_second);
         self.line(&format!(
-            "start-up, not counted above: program {:.0} us, reference {:.0} us",
-            measured.base.program * MICROSECONDS.per_second,
-            measured.base.reference * MICROSECONDS.per_second
+            "start-up, not counted above: desk {:.0} us, reference {:.0} us, fast {:.0} us",
+            base.program, base.reference, base.fast
         ))
     }
 
@@ -111,13 +179,24 @@ impl Bench<'_> {
     }
 }
 
-/// The columns that have times. No ratio where a time is lost in the noise.
-fn times(name: &str, measured: &Measured, unit: Unit) -> String {
-    let each = |seconds: f64| seconds.max(0.0) * unit.per_second / measured.count as f64;
-    let program = each(measured.counted.program);
-    let reference = each(measured.counted.reference);
-    let ratio = measured.counted.ratio();
-    let ratio = ratio.map_or("-".into(), |ratio| format!("{ratio:.3}"));
-    let count = measured.count;
-    format!("{name:<28} {count:>7} {program:>17.3} {reference:>19.3} {ratio:>8}")
+/// A line of a table. There is no ratio where a figure is not known.
+fn row(name: &str, count: usize, each: &Figures, digits: usize) -> String {
+    let figure = |figure: f64| match figure {
+        known if known.is_finite() => format!("{known:.digits$}"),
+        _ => "-".into(),
+    };
+    let ratio = |ratio: Option<f64>| ratio.map_or("-".into(), |ratio| format!("{ratio:.3}"));
+    let columns = [
+        figure(each.program),
+        figure(each.reference),
+        ratio(each.to_reference()),
+        figure(each.fast),
+        ratio(each.to_fast()),
+    ];
+    line(name, &count.to_string(), columns)
+}
+
+fn line<T: Display>(name: &str, count: &str, columns: [T; 5]) -> String {
+    let [desk, reference, first, fast, second] = columns;
+    format!("{name:<34} {count:>7} {desk:>9} {reference:>11} {first:>9} {fast:>9} {second:>7}")
 }

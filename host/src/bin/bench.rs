@@ -1,6 +1,7 @@
-//! Measures a desk program against the reference, as ratios within one run.
+//! Measures a desk program against the reference and against the program
+//! written for speed, as ratios within one run.
 
-use host::bench::{report, Counter, Programs, Stop};
+use host::bench::{report, Programs, Stop};
 use std::ffi::OsString;
 use std::io;
 use std::path::{Path, PathBuf};
@@ -14,22 +15,14 @@ fn main() -> ExitCode {
         eprintln!("{USAGE}");
         return ExitCode::from(2);
     };
-    let reference = match reference() {
-        Ok(reference) => reference,
+    let programs = match programs(program) {
+        Ok(programs) => programs,
         Err(error) => {
-            eprintln!("bench: no reference next to bench: {error}\n{USAGE}");
+            eprintln!("bench: the others are not next to bench: {error}\n{USAGE}");
             return ExitCode::from(2);
         }
     };
-    let programs = Programs {
-        program: program.to_path_buf(),
-        reference,
-    };
-    let counter = counting.then(|| Counter::find(program)).flatten();
-    if counting && counter.is_none() {
-        println!("valgrind is not on this machine; instructions are not counted");
-    }
-    match report(&programs, counter.as_ref(), &mut io::stdout()) {
+    match report(&programs, counting, &mut io::stdout()) {
         Ok(()) => ExitCode::SUCCESS,
         Err(Stop::Difference(difference)) => {
             println!("{difference}");
@@ -54,9 +47,18 @@ fn parse(arguments: &[OsString]) -> Option<(&Path, bool)> {
     }
 }
 
-/// The reference lies next to this program.
-fn reference() -> io::Result<PathBuf> {
-    let name = format!("reference{}", std::env::consts::EXE_SUFFIX);
+/// The program and those to measure it against.
+fn programs(program: &Path) -> io::Result<Programs> {
+    Ok(Programs {
+        program: program.to_path_buf(),
+        reference: neighbour("reference")?,
+        fast: neighbour("fast")?,
+    })
+}
+
+/// A program that lies next to this one.
+fn neighbour(name: &str) -> io::Result<PathBuf> {
+    let name = format!("{name}{}", std::env::consts::EXE_SUFFIX);
     let path = std::env::current_exe()?.with_file_name(name);
     path.metadata().map(|_| path)
 }
