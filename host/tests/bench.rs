@@ -244,14 +244,16 @@ fn worst_offers() {
 
 #[test]
 fn loading_takes_the_largest_sheets() {
-    let mut sheets = loading::sheets();
-    sheets.push(loading::long_way());
+    let largest = loading::sheets();
+    let longest = vec![loading::long_way()];
+    let sheets = [&largest, &largest, &longest, &longest].into_iter().flatten();
+    let sheets: Vec<_> = sheets.collect();
     sheets.iter().for_each(|bytes| check_largest(bytes));
     let inputs = LOADING.iter().flat_map(|kind| kind.inputs(kind.calls));
     let inputs: Vec<Input> = inputs.collect();
     assert_eq!(inputs.len(), sheets.len());
     for (input, bytes) in inputs.iter().zip(&sheets) {
-        assert_eq!(sheet_bytes(input), bytes);
+        assert_eq!(sheet_bytes(input), *bytes);
         assert_eq!(desk::run(&input.base), "sheet refused I-1\n");
         assert!(desk::run(&input.whole).starts_with("sheet 16 2 16 64 1"));
     }

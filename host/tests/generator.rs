@@ -100,6 +100,19 @@ fn long_pending() {
 }
 
 #[test]
+fn long_two_clocks() {
+    let least = [
+        ("refused S-4", 200),
+        ("scheduled 17", 30),
+        ("scheduled 2 to 16", 300),
+        ("held", 3000),
+        ("dropped", 500),
+        ("lamp 1", 100),
+    ];
+    require("long_two_clocks", &least);
+}
+
+#[test]
 fn full_schedule() {
     let least = [
         ("refused S-3", 2000),

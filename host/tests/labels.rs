@@ -127,6 +127,13 @@ fn long_lists() {
 }
 
 #[test]
+fn long_lists_two_clocks() {
+    let (found, longest) = check_kind("long_two_clocks", 200);
+    assert!(found >= 200, "{found}");
+    assert_eq!(longest, 17);
+}
+
+#[test]
 fn two_clocks() {
     let (found, longest) = check_kind("two_clocks", 300);
     assert!(found >= 300 && longest >= 4, "{found} {longest}");

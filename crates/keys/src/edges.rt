@@ -42,3 +42,14 @@ Sixteen locations; 16 1 1 0 1 0, 70 0 7 0 77 0 7 0 84 0 7 0 91 0 7 0 98 0 7 0 10
 ",
     );
 }
+
+// What decides without dates: where a list can lead to, and that no room is said only where the last date is not passed.
+pub fn decisions() {
+    ask_all(
+        b"\
+A reset on the way; 4 2 3 3 4 0, 22 0 7 0 29 0 7 0 36 0 0 0 36 0 7 0, 0 1 2 0 255 0 255, 1 2 0 0 255 0 5, 2 0 0 0 255 0 255; 255 at 10, 2 at 10; Clock 2 is past 5, but 0 resets it before 1.
+Clocks that run together; 3 2 3 0 4 0, 18 0 7 0 25 0 14 0 39 0 0 0, 0 1 0 0 255 0 255, 1 2 0 0 0 10 10, 2 2 0 0 255 0 255; 0 at 0, 1 at 0; Without a reset clock 1 is never 0 with clock 2 at 10.
+No room, and too late; 2 1 3 0 1 0, 14 0 14 0 28 0 7 0, 0 0 1 0 255 0 255, 1 1 1 30 255 0 255, 2 0 0 30 255 0 255; 32 x 0 at 999999960, 1 at 999999960, 2 at 999999960; 1 and 2 take 60 ticks, and the last date is 40 away.
+",
+    );
+}

@@ -27,6 +27,7 @@ fn main() {
     edges::one_clock();
     edges::resets();
     edges::batches();
+    edges::decisions();
     largest::all();
     tails::all();
 }

@@ -13,10 +13,10 @@ fn lit<'a>(s: &'a [u8], cs: &'a [u8], l: u8, x: u8, y: u8) {
         return;
     }
     let table = liveness::live_table(s);
-    let sets = table.sets;
+    let counts = table.counts;
     print::word(b"lamp");
     print::configuration(l, x, y);
-    print::truth(lamp::is_lit(s, &sets, cs, l, [x, y]));
+    print::truth(lamp::is_lit(s, &counts, cs, l, [x, y]));
 }
 
 pub fn all() {

@@ -8,10 +8,10 @@ fn live(s: &[u8], l: u8, x: u8, y: u8) {
         return;
     }
     let table = liveness::live_table(s);
-    let sets = table.sets;
+    let counts = table.counts;
     print::word(b"live");
     print::configuration(l, x, y);
-    print::truth(liveness::is_live(s, &sets, l, [x, y]));
+    print::truth(liveness::is_live(s, &counts, l, [x, y]));
 }
 
 pub fn one_clock() {

@@ -5,6 +5,7 @@ mod lamp;
 mod liveness;
 mod lookup;
 mod optimum;
+mod outlook;
 mod print;
 mod replay;
 mod sheets;
@@ -21,6 +22,9 @@ fn main() {
     liveness::two_clocks();
     optimum::one_clock();
     optimum::two_clocks();
+    outlook::short();
+    outlook::lists();
+    outlook::two_clocks();
     lamp::all();
     replay::keys();
     replay::edges();

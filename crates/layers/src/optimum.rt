@@ -56,9 +56,9 @@ fn plan(s: &[u8], cs: &[u8], l: u8, x: u8, y: u8, t: u32) {
         return;
     }
     let table = liveness::live_table(s);
-    let sets = table.sets;
+    let counts = table.counts;
     let mut out = [0u32; Monitor::BATCH];
-    let p = optimum::plan(s, &sets, cs, l, [x, y], t, &mut out);
+    let p = optimum::plan(s, &counts, cs, l, [x, y], t, &mut out);
     print_plan(p, &out[..cs.len()]);
 }
 

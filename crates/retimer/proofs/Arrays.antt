@@ -2,14 +2,21 @@
 -- Assumes nothing.
 use mathlib.Core.Path.{_≡_, refl, ap, sym, _∙_}
 use mathlib.Core.List.{List, [], _∷_, _++_, map, map-append, append-assoc, append-nil}
-use Prim.Native.Nat.{ℕ, suc, _+_, _-_, _<_}
+use Prim.Native.Nat.{ℕ, zero, suc, _+_, _-_, _<_}
 use native.Mathlib.Omega.{arith}
 use native.Mathlib.Numerals.{add-one}
-use lib.ListN.{length, take, drop, getD, set, length-drop, length-map}
+use lib.ListN.{length, take, drop, getD, set, replicate, length-drop, length-map}
 use lib.Seq.{take-suc-set, take-suc, take-nil, getD-drop, drop-set-lt, drop-drop, take-length, length-take-le}
 use Rattle.enforcement.specs.History.{Request, Slot, place}
 use Rattle.retimer.specs.declared.limits.Slot as declared
 use Rattle.retimer.specs.View.{requestOf, slotOf}
+
+-- ---- Zeros
+
+pub zero-at : (n i : ℕ) → _≡_ {A = ℕ} (getD (replicate n 0) i 0) 0
+zero-at zero i = refl
+zero-at (suc n) zero = refl
+zero-at (suc n) (suc i) = zero-at n i
 
 -- ---- One list is copied to the front of another, place by place
 

@@ -1,259 +1,430 @@
--- The table that sweeps find has exactly the live configurations.
+-- The rows that sweeps find have exactly the live configurations.
+-- Assumes nothing.
 use mathlib.Core.Path.{_≡_, refl, ap, sym, _∙_, subst, subst⁻¹}
 use mathlib.Core.Bool.{Bool, true, false, cond, _||_, _&&_, false≢true, true≢false}
-use mathlib.Core.List.{List, [], _∷_, _++_, append-assoc}
+use mathlib.Core.List.{List, [], _∷_}
 use mathlib.Core.Logic.{_⊎_, inl, inr, ⊎-elim}
 use mathlib.Core.Option.{some}
-use Prim.Native.Nat.{ℕ, _+_, _*_, _-_, _/_, _%_, _≤_, _<_}
+use Prim.Native.Nat.{ℕ, zero, suc, _+_, _*_, _-_, _≤_, _<_, min}
 use native.Mathlib.Omega.{arith}
-use native.Mathlib.Nat.{eq-or-lt-of-le}
 use lib.Dec.{eqb}
-use lib.ListN.{length, getD, set, length-set, replicate, length-replicate}
-use lib.Arith.{lt-of-le-ne}
-use lib.Seq.{getD-set-same, getD-set-other}
+use lib.ListN.{length, getD, set, replicate, length-replicate}
 use borrow.Author.Tests.{eqb-true, eqb-false}
-use Rattle.enforcement.specs.Automaton.{Bytes, Transition, automaton, bit, accepting, actions, clocks, locations, transitions, enabled}
+use Rattle.enforcement.specs.Limits.{maxCount}
+use Rattle.enforcement.specs.Automaton.{Bytes, Transition, automaton, byte, bit, accepting, actions, clocks, locations, offset, size, word, transitionAt, transitions, enabled}
 use Rattle.enforcement.specs.TimedWord.{Configuration, fire, fireFirst, step}
 use Rattle.enforcement.specs.Loading.{Loads, Fits, AllFit, OverlapIn, Bounded, Deterministic}
-use Rattle.enforcement.specs.Model.{top, width, area, advance, compile}
-use Rattle.enforcement.proofs.Saturation.{configuration-path}
+use Rattle.enforcement.specs.Model.{top, width, advance, compile}
 use Rattle.enforcement.proofs.Liveness.{Live, here, tick, act}
 use Rattle.enforcement.proofs.Tests.{true-T}
 use Rattle.enforcement.proofs.Compilation.{live-search}
-use Rattle.enforcement.proofs.Loading.{bounded, deterministic}
+use Rattle.enforcement.proofs.Loading.{bounded, deterministic, header}
 use Rattle.enforcement.proofs.Overlaps.{only-fires}
-use Rattle.retimer.specs.Readings.{Readings, waited, resetBy, located, Standing}
-use Rattle.retimer.specs.Live.{has, LiveTable, place, leads, acts, belongs, Valuation, valuations, countOf, nthOf, valuation, Grown, Closed, Sound, slack, Progress}
-use Rattle.retimer.proofs.Valuations.{standing-waited, standing-fired}
-use Rattle.retimer.proofs.Sets.{slack-set, zero-at, bit-none}
-
--- ---- Tests
-
-or-left : (a b : Bool) → a ≡ true → (a || b) ≡ true
-or-left a b e = rw e
-
-or-right : (a b : Bool) → b ≡ true → (a || b) ≡ true
-or-right true b e = refl
-or-right false b e = e
-
-or-cases : (a b : Bool) → (a || b) ≡ true → (a ≡ true) ⊎ (b ≡ true)
-or-cases true b e = inl refl
-or-cases false b e = inr e
+use Rattle.retimer.specs.Readings.{Standing, located}
+use Rattle.retimer.specs.Locations.{Added}
+use Rattle.retimer.proofs.Arrays.{zero-at}
+use Rattle.retimer.specs.Leading.{allRows, member, slack, keptFirst, keptSecond, leads, Others, TransitionAdded, WaitsAdded, Filled}
+use Rattle.retimer.specs.Counts.{Closed, Counted}
+use Rattle.retimer.specs.Live.{LiveTable, LiveSet, least, leastOf, Stands, alive, Sound, Place, Included, Ticked, Gained, Settled, Turn, Turns, Improved, Full, Unsettled, Swept}
+use Rattle.enforcement.proofs.Bits.{bit-none, or-cases, or-shown, and-cases}
+use Rattle.retimer.proofs.sets.Tables.{same-or}
+use Rattle.retimer.proofs.sets.Closing.{waits-none, waits-later}
+use Rattle.retimer.proofs.Valuations.{cond-most}
+use Rattle.retimer.proofs.Places.{Every, place-split, place-fits, places-every}
 
 true-and : {a b : Bool} → a ≡ true → b ≡ true → (a && b) ≡ true
 true-and e f = rw (e, f)
 
-and-true : (a b : Bool) → (a && b) ≡ true → (a ≡ true) × (b ≡ true)
-and-true true b e = (refl, e)
-and-true false b e = absurd (false≢true e)
-
 -- ---- Where a configuration stands
 
--- A configuration of the automaton.
-abbrev Stands : Bytes → Configuration → Type 0
-Stands s p = Standing s (p .location) (p .x ∷ p .y ∷ [])
+abbrev pub at : ℕ → ℕ → ℕ → Configuration
+at l x y = record { location = l; x = x; y = y }
 
-stands : {s : Bytes} {l : ℕ} {r : List ℕ} → Standing s l r → Stands s (located l r)
-stands h = record { in-sheet = h .in-sheet; readings = record { two = refl; first = h .readings .first; second = h .readings .second }; one-clock = h .one-clock }
-
--- Two readings, by their list.
-two-readings : (r : List ℕ) → length r ≡ 2 → r ≡ getD r 0 0 ∷ getD r 1 0 ∷ []
-two-readings [] e = absurd (omega arith)
-two-readings (x ∷ []) e = absurd (omega arith)
-two-readings (x ∷ y ∷ []) e = refl
-two-readings (x ∷ y ∷ z ∷ r) e = absurd (omega arith)
-
-tick-stands : {s : Bytes} (p : Configuration) → Stands s p → Stands s (advance 1 p)
-unfolding waited
-tick-stands {s} p h = standing-waited s (p .location) 1 (p .x ∷ p .y ∷ []) h
-
-fire-stands : (s : Bytes) (u : Transition) → Fits s u → (p : Configuration) → Stands s p → Stands s (fire u p)
-unfolding resetBy
-fire-stands s u f p h = standing-fired s (p .location) (p .x ∷ p .y ∷ []) u f h
-
-first-stands : (s : Bytes) (ts : List Transition) → AllFit s ts → (c : ℕ) (p q : Configuration) → Stands s p → fireFirst ts c p ≡ some q → Stands s q
-unfolding fireFirst
-first-stands s [] f c p q h e = let z : _≡_ {A = ℕ} 0 1 = cc in absurd (omega arith)
-first-stands s (u ∷ ts) f c p q h e = go (eqb (u .action) c && enabled u (p .x) (p .y)) e (first-stands s ts (f .1) c p q h)
+tick-stands : {s : Bytes} {l x y : ℕ} → Stands s l x y → Stands s l (min (x + 1) top) (min (y + 1) top)
+tick-stands {s} {l} {x} {y} h = record { in-sheet = h .in-sheet; first = omega arith; second = omega arith; used = go (eqb (clocks s) 1) (h .used) }
   where
-    go : (b : Bool) → cond b (some (fire u p)) (fireFirst ts c p) ≡ some q → (fireFirst ts c p ≡ some q → Stands s q) → Stands s q
-    go true x k = subst (Stands s) (let y : fire u p ≡ q = cc in y) (fire-stands s u (f .0) p h)
-    go false x k = k x
+    go : (one : Bool) → leastOf one ≤ y → leastOf one ≤ min (y + 1) top
+    go true g = omega arith
+    go false g = omega arith
 
-step-stands : (s : Bytes) → Loads s → (c : ℕ) (p q : Configuration) → Stands s p → step (automaton s) c p ≡ some q → Stands s q
-unfolding step Bounded
-step-stands s k c p q h e = first-stands s (transitions s (p .location)) (bounded s k (p .location)) c p q h e
-
--- ---- Valuations
-
--- The valuations from the nth on are done.
-abbrev pub DoneFrom : Bytes → List ℕ → Bool → ℕ → Type 0
-DoneFrom s t one n = (k : ℕ) → n ≤ k → k < countOf one → Closed s t (nthOf one k)
-
-pub nth-valuation : (s : Bytes) (n : ℕ) (r : List ℕ) → n < valuations s → r ≡ valuation s n → Valuation s r
-nth-valuation s n r h e = rw e (go (eqb (clocks s) 1) refl h)
+fire-stands : {s : Bytes} {u : Transition} → Fits s u → {l x y : ℕ} → Stands s l x y → Stands s (u .target) (keptFirst u x) (keptSecond u y)
+fire-stands {s} {u} f {l} {x} {y} h = record {
+  in-sheet = f .target-fits;
+  first = cond-most (bit (u .resets) 0) x top (h .first);
+  second = cond-most (bit (u .resets) 1) y top (h .second);
+  used = go (eqb (clocks s) 1) refl (h .used);
+}
   where
-    go : (b : Bool) → eqb (clocks s) 1 ≡ b → n < countOf b → Valuation s (nthOf b n)
-    go true x k = record { readings = record { two = refl; first = omega arith; second = omega arith }; one-clock = λ _. refl }
-    go false x k = record { readings = record { two = refl; first = omega arith; second = omega arith }; one-clock = λ y. absurd (eqb-false (clocks s) 1 x y) }
+    go : (one : Bool) → eqb (clocks s) 1 ≡ one → leastOf one ≤ y → leastOf one ≤ keptSecond u y
+    go true e g = rw (f .one-clock (eqb-true (clocks s) 1 e) .kept) g
+    go false e g = omega arith
 
-place-same : (r q : List ℕ) → Readings r → Readings q → place q ≡ place r → (getD q 0 0 ≡ getD r 0 0) × (getD q 1 0 ≡ getD r 1 0)
-place-same r q h k e = let z : getD q 0 0 ≡ getD r 0 0 = omega (arith, h .second, k .second) in (z, omega arith)
+pub standing-stands : {s : Bytes} {l : ℕ} {r : List ℕ} → Standing s l r → Stands s l (getD r 0 0) (getD r 1 0)
+standing-stands {s} {l} {r} h = record { in-sheet = h .in-sheet; first = h .readings .first; second = h .readings .second; used = go (eqb (clocks s) 1) refl }
+  where
+    go : (one : Bool) → eqb (clocks s) 1 ≡ one → leastOf one ≤ getD r 1 0
+    go true e = omega (arith, h .one-clock (eqb-true (clocks s) 1 e))
+    go false e = omega arith
+
+-- ---- Locations that stay
+
+-- Rows of which only those of l have changed.
+module _ (t u : List ℕ) {l : ℕ} (o : Others t u l) where
+  other-member : (k x y : ℕ) → (k ≡ l → ⊥) → y ≤ top → member u k x y ≡ member t k x y
+  other-member k x y ne h = ap (λ (n : ℕ). bit n x) (o k y ne h)
+
+  leads-other : (v : Transition) (x y : ℕ) → (v .target ≡ l → ⊥) → y ≤ top → leads u v x y ≡ leads t v x y
+  unfolding leads
+  leads-other v x y ne h = ap (λ (b : Bool). enabled v x y && b) (other-member (v .target) (keptFirst v x) (keptSecond v y) ne (cond-most (bit (v .resets) 1) y top h))
+
+module _ {s : Bytes} {t u : List ℕ} {l : ℕ} {b : Bool} (g : Gained s t u l b) where
+  -- A configuration that the rows had they have.
+  gained-kept : (k x y : ℕ) → x ≤ top → least s ≤ y → y ≤ top → member t k x y ≡ true → member u k x y ≡ true
+  gained-kept k x y p q o e = same-or k l (λ d. subst (λ (i : ℕ). member u i x y ≡ true) (sym d) (g .kept x y p q o (subst (λ (i : ℕ). member t i x y ≡ true) d e))) (λ ne. other-member t u (g .others) k x y ne o ∙ e)
+
+  -- A transition to another location than l.
+  ruled-on : (k : ℕ) (v : Transition) → (v .target ≡ l → ⊥) → Included s t k v → Included s u k v
+  ruled-on k v ne f x y p q o e = gained-kept k x y p q o (f x y p q o (sym (leads-other t u (g .others) v x y ne o) ∙ e))
+
+  gained-grows : slack u ≤ slack t
+  gained-grows = go b refl
+    where
+      go : (c : Bool) → b ≡ c → slack u ≤ slack t
+      go true e = omega (arith, g .larger e)
+      go false e = rw (g .same e) (omega arith)
+
+  ticked-other : (k : ℕ) → (k ≡ l → ⊥) → Ticked s t k → Ticked s u k
+  ticked-other k ne f x y p q o e = other-member t u (g .others) k x y ne o ∙ f x y p q o (sym (other-member t u (g .others) k (min (x + 1) top) (min (y + 1) top) ne (omega arith)) ∙ e)
+
+  -- What holds of the rows before holds of the same rows.
+  gained-same : (P : List ℕ → Type 0) → b ≡ false → P t → P u
+  gained-same P e = subst⁻¹ P (g .same e)
+
+module _ {s : Bytes} {t u w : List ℕ} {l : ℕ} {a b : Bool} (f : Gained s t u l a) (g : Gained s u w l b) where
+  gained-with : (c : Bool) → (c ≡ true → slack w < slack t) → (c ≡ false → w ≡ t) → Gained s t w l c
+  gained-with c lg sm = record {
+    sound = g .sound;
+    others = λ k y ne h. g .others k y ne h ∙ f .others k y ne h;
+    kept = λ x y p q o e. g .kept x y p q o (f .kept x y p q o e);
+    larger = lg;
+    same = sm;
+  }
+
+  gained-more : b ≡ true → Gained s t w l true
+  gained-more e = gained-with true (λ _. let z = gained-grows f in omega (arith, g .larger e)) (λ d. absurd (true≢false d))
+
+  gained-none : b ≡ false → Gained s t w l a
+  gained-none e = gained-with a (λ z. rw (g .same e) (f .larger z)) (λ z. g .same e ∙ f .same z)
+
+gained-refl : {s : Bytes} {t : List ℕ} (l : ℕ) → Sound s t → Gained s t t l false
+gained-refl l f = record { sound = f; others = λ k y ne h. refl; kept = λ x y p q o e. e; larger = λ e. absurd (false≢true e); same = λ _. refl }
+
+-- A settled transition stays so.
+settled-more : {s : Bytes} {u w : List ℕ} {l : ℕ} {a b : Bool} (q : ℕ) → Gained s u w l b → Settled s u l a q → Settled s w l true q
+settled-more {s} {u} {w} {l} q g (inl z) = inl (refl, z .1)
+settled-more {s} {u} {w} {l} q g (inr z) = same-or (byte s (q + 1)) l (λ e. inl (refl, e)) (λ ne. inr (ruled-on g l (transitionAt s q) ne z))
+
+-- The locations below l are done.
+pub record Sweeping (s : Bytes) (t u : List ℕ) (set l next : ℕ) : Type 0 where
+  pub sound : Sound s u
+  pub full : Full s u
+  pub ticked : (k : ℕ) → k < locations s → Ticked s u k
+  pub included : (k q : ℕ) → k < locations s → Place s k q → (k < l) ⊎ (bit set (byte s (q + 1)) ≡ false) → bit next (byte s (q + 1)) ≡ false → Included s u k (transitionAt s q)
+  pub grows : slack u ≤ slack t
+  pub larger : (next ≡ 0 → ⊥) → slack u < slack t
 
 -- ---- What is live
 
 module _ (s : Bytes) (loads : Loads s) where
-  abbrev Lives : Configuration → Type 0
-  Lives p = Live (step (automaton s)) (accepting s) (actions s) p
+  abbrev pub Lives : ℕ → ℕ → ℕ → Type 0
+  Lives l x y = Live (step (automaton s)) (accepting s) (actions s) (at l x y)
 
-  abbrev alive : Configuration → Bool
-  alive p = compile (automaton s) .live p
+  pub alive-lives : (l x y : ℕ) → Stands s l x y → alive s l x y ≡ true → Lives l x y
+  alive-lives l x y h = live-search (automaton s) (bounded s loads) (at l x y) (h .first) (h .second) .0
 
-  alive-lives : (p : Configuration) → Stands s p → alive p ≡ true → Lives p
-  alive-lives p h = live-search (automaton s) (bounded s loads) p (h .readings .first) (h .readings .second) .0
+  pub lives-alive : (l x y : ℕ) → Stands s l x y → Lives l x y → alive s l x y ≡ true
+  lives-alive l x y h = live-search (automaton s) (bounded s loads) (at l x y) (h .first) (h .second) .1
 
-  lives-alive : (p : Configuration) → Stands s p → Lives p → alive p ≡ true
-  lives-alive p h = live-search (automaton s) (bounded s loads) p (h .readings .first) (h .readings .second) .1
+  -- A transition that leads into sound rows.
+  leads-alive : (t : List ℕ) → Sound s t → (l x y q : ℕ) → Place s l q → Stands s l x y → leads t (transitionAt s q) x y ≡ true → alive s l x y ≡ true
+  unfolding leads step Deterministic
+  leads-alive t f l x y q r h e =
+      let u : Transition = transitionAt s q in
+      let z = and-cases (enabled u x y) _ e in
+      let d = place-split s loads l (h .in-sheet) q r in
+      let k = place-fits s loads l (h .in-sheet) q r in
+      let g = fire-stands k h in
+      lives-alive l x y h
+      (act (u .action) (k .action-fits)
+      (ap (λ (ts : List Transition). fireFirst ts (u .action) (at l x y)) (d .is) ∙ only-fires (d .left) u (d .right) (λ o. deterministic s loads l (subst⁻¹ OverlapIn (d .is) o)) (at l x y) (true-T (z .0)))
+      (alive-lives (u .target) (keptFirst u x) (keptSecond u y) g (f .live (u .target) (keptFirst u x) (keptSecond u y) g (z .1))))
 
-  -- ---- What belongs in a table
+  waits-lives : (t : List ℕ) → Sound s t → (n l x y : ℕ) → Stands s l x y → member t l (min (x + n) top) (min (y + n) top) ≡ true → Lives l x y
+  waits-lives t f zero l x y h e =
+      let a : min (x + 0) top ≡ x = omega (arith, h .first) in
+      let b : min (y + 0) top ≡ y = omega (arith, h .second) in
+      alive-lives l x y h (f .live l x y h (rw (a, b) at e))
+  waits-lives t f (suc n) l x y h e =
+      let a : min (x + suc n) top ≡ min (min (x + 1) top + n) top = omega arith in
+      let b : min (y + suc n) top ≡ min (min (y + 1) top + n) top = omega arith in
+      tick (waits-lives t f n l (min (x + 1) top) (min (y + 1) top) (tick-stands h) (rw (a, b) at e))
 
-  -- The table has a configuration, and it belongs in the table.
-  abbrev holds : List ℕ → Configuration → Bool
-  holds t p = has t (p .location) (p .x ∷ p .y ∷ [])
+  -- Rows stay sound.
+  sound-at : {t : List ℕ} (u : List ℕ) {l : ℕ} → Sound s t → length u ≡ length t → Others t u l → ((x y : ℕ) → Stands s l x y → member u l x y ≡ true → alive s l x y ≡ true) → Sound s u
+  sound-at {t} u {l} f z o g = record { sized = z ∙ f .sized; live = λ k x y h e. same-or k l (λ d. subst (λ (i : ℕ). alive s i x y ≡ true) (sym d) (g x y (subst (λ (i : ℕ). Stands s i x y) d h) (subst (λ (i : ℕ). member u i x y ≡ true) d e))) (λ ne. f .live k x y h (sym (other-member t u o k x y ne (h .second)) ∙ e)) }
 
-  abbrev fitting : List ℕ → Configuration → Bool
-  fitting t p = belongs s t (p .location) (p .x ∷ p .y ∷ [])
+  -- ---- Transitions of a location
 
-  -- An action takes p into the table.
-  record Leads (t : List ℕ) (p : Configuration) : Type 0 where
-    by : ℕ
-    known : by < actions s
-    to : Configuration
-    steps : step (automaton s) by p ≡ some to
-    held : holds t to ≡ true
+  module _ {t u : List ℕ} {l q : ℕ} {b : Bool} (f : Sound s t) (r : Place s l q) where
+    rule-gained : TransitionAdded t u l (least s) (transitionAt s q) b → Gained s t u l b
+    rule-gained a = record {
+      sound = sound-at u f (a .sized) (a .others) (λ x y h e. ⊎-elim (f .live l x y h) (leads-alive t f l x y q r h) (or-cases _ _ (sym (a .exact x y (h .first) (h .used) (h .second)) ∙ e)));
+      others = a .others;
+      kept = λ x y p o k e. a .exact x y p o k ∙ or-shown _ _ (inl e);
+      larger = a .larger;
+      same = a .same;
+    }
 
-  acts-leads : (t : List ℕ) (p : Configuration) (us ts : List Transition) → transitions s (p .location) ≡ us ++ ts → AllFit s ts → acts t (p .x ∷ p .y ∷ []) ts ≡ true → Leads t p
-  unfolding acts leads resetBy step Deterministic
-  acts-leads t p us [] x f e = absurd (false≢true e)
-  acts-leads t p us (u ∷ ts) x f e = ⊎-elim one (acts-leads t p (us ++ (u ∷ [])) ts (x ∙ sym (append-assoc us (u ∷ []) ts)) (f .1)) (or-cases (leads t (p .x ∷ p .y ∷ []) u) (acts t (p .x ∷ p .y ∷ []) ts) e)
+    -- It is settled then.
+    rule-settled : TransitionAdded t u l (least s) (transitionAt s q) b → Settled s u l b q
+    rule-settled a = go b refl
+      where
+        included : (t' : List ℕ) → ((x y : ℕ) → y ≤ top → leads t' (transitionAt s q) x y ≡ leads t (transitionAt s q) x y) → t' ≡ u → Included s u l (transitionAt s q)
+        included t' k z x y p o i e = a .exact x y p o i ∙ or-shown (member t l x y) _ (inr (sym (k x y i) ∙ subst⁻¹ (λ (v : List ℕ). leads v (transitionAt s q) x y ≡ true) z e))
+
+        go : (c : Bool) → b ≡ c → Settled s u l b q
+        go true e = same-or (byte s (q + 1)) l (λ d. inl (e, d)) (λ ne. inr (included u (λ x y h. leads-other t u (a .others) (transitionAt s q) x y ne h) refl))
+        go false e = inr (included t (λ x y h. refl) (sym (a .same e)))
+
+    pub turn-taken : (from set : ℕ) → from ≡ least s → TransitionAdded t u l from (transitionAt s q) b → Turn s t u l set q b
+    turn-taken from set e a = let z = subst (λ (n : ℕ). TransitionAdded t u l n (transitionAt s q) b) e a in record { gained = rule-gained z; settled = λ _. rule-settled z }
+
+  pub turn-left : {t : List ℕ} (l q set : ℕ) → Sound s t → bit set (byte s (q + 1)) ≡ false → Turn s t t l set q false
+  turn-left l q set f e = record { gained = gained-refl l f; settled = λ d. absurd (false≢true (sym e ∙ d)) }
+
+  pub turns-begun : {t : List ℕ} (l set p : ℕ) → Sound s t → p ≡ offset s l → Turns s t t l set p false
+  turns-begun l set p f e = record { gained = gained-refl l f; settled = λ q r h. absurd (omega (arith, r .after)) }
+
+  -- The place before the next.
+  place-before : {l p : ℕ} (q : ℕ) → Place s l p → Place s l q → q < p + 7 → (q < p) ⊎ (q ≡ p)
+  place-before {l} {p} q h r k = same-or q p inr (λ ne. inl (omega (arith, h .after, h .whole, r .after, r .whole)))
+
+  module _ {t u w : List ℕ} {l set p : ℕ} {a b : Bool} (r : Place s l p) (f : Turns s t u l set p a) (g : Turn s u w l set p b) where
+    pub turns-more : b ≡ true → Turns s t w l set (p + 7) true
+    turns-more e = record {
+      gained = gained-more (f .gained) (g .gained) e;
+      settled = λ q h k d. ⊎-elim (λ z. settled-more q (g .gained) (f .settled q h z d)) (λ z. subst⁻¹ (Settled s w l true) z (subst (λ (c : Bool). Settled s w l c p) e (g .settled (subst (λ (i : ℕ). bit set (byte s (i + 1)) ≡ true) z d)))) (place-before q r h k);
+    }
+
+    pub turns-same : b ≡ false → Turns s t w l set (p + 7) a
+    turns-same e = record {
+      gained = gained-none (f .gained) (g .gained) e;
+      settled = λ q h k d. ⊎-elim (λ z. gained-same (g .gained) (λ v. Settled s v l a q) e (f .settled q h z d)) (λ z. subst⁻¹ (Settled s w l a) z (⊎-elim (λ y. absurd (false≢true (sym e ∙ y .0))) inr (g .settled (subst (λ (i : ℕ). bit set (byte s (i + 1)) ≡ true) z d)))) (place-before q r h k);
+    }
+
+  pub turns-ended : {t u : List ℕ} {l set p e : ℕ} {b : Bool} → Turns s t u l set p b → e ≤ p → Turns s t u l set e b
+  turns-ended f h = record { gained = f .gained; settled = λ q r k d. f .settled q r (omega arith) d }
+
+  pub close-gained : {t u w : List ℕ} {l set e : ℕ} {b : Bool} → b ≡ true → Turns s t u l set e b → e ≡ offset s l + size s l → (from : ℕ) → from ≡ least s → WaitsAdded u w l from → Improved s t w l set true
+  close-gained {t} {u} {w} {l} {set} {e} {b} h f₀ d from i a₀ = record {
+    gained = record {
+      sound = sound-at w (f .gained .sound) (a .sized) (a .others) (λ x y i k. let z = a .only x y (i .first) (i .used) (i .second) k in lives-alive l x y i (waits-lives u (f .gained .sound) (z .0) l x y i (z .1)));
+      others = λ k y ne i. a .others k y ne i ∙ f .gained .others k y ne i;
+      kept = λ x y p q o k. kept x y p q o (f .gained .kept x y p q o k);
+      larger = λ _. omega (arith, a .grows, f .gained .larger refl);
+      same = λ k. absurd (true≢false k);
+    };
+    settled = λ q r k. ⊎-elim (λ z. inl z) (λ z. same-or (byte s (q + 1)) l (λ i. inl (refl, i)) (λ ne. inr (λ x y p i o j. kept x y p i o (z x y p i o (sym (leads-other u w (a .others) (transitionAt s q) x y ne o) ∙ j))))) (f .settled q r (omega (arith, r .inside)) k);
+    ticked = λ x y p q o k. a .all x y p q o (waits-later u l x y (a .only (min (x + 1) top) (min (y + 1) top) (omega arith) (tick-used y q o) (omega arith) k));
+  }
     where
-      one : leads t (p .x ∷ p .y ∷ []) u ≡ true → Leads t p
-      one k =
-          let z = and-true (enabled u (p .x) (p .y)) _ k in
-          record {
-            by = u .action;
-            known = f .0 .action-fits;
-            to = fire u p;
-            steps = ap (λ (vs : List Transition). fireFirst vs (u .action) p) x ∙ only-fires us u ts (λ o. deterministic s loads (p .location) (subst⁻¹ OverlapIn x o)) p (true-T (z .0));
-            held = z .1;
-          }
+      f : Turns s t u l set e true
+      f = subst (Turns s t u l set e) h f₀
 
-  leads-acts : (t : List ℕ) (p q : Configuration) (c : ℕ) (ts : List Transition) → fireFirst ts c p ≡ some q → holds t q ≡ true → acts t (p .x ∷ p .y ∷ []) ts ≡ true
-  unfolding acts leads resetBy fireFirst
-  leads-acts t p q c [] e h = let z : _≡_ {A = ℕ} 0 1 = cc in absurd (omega arith)
-  leads-acts t p q c (u ∷ ts) e h = go (eqb (u .action) c && enabled u (p .x) (p .y)) refl e (leads-acts t p q c ts)
-    where
-      go : (b : Bool) → (eqb (u .action) c && enabled u (p .x) (p .y)) ≡ b → cond b (some (fire u p)) (fireFirst ts c p) ≡ some q → (fireFirst ts c p ≡ some q → holds t q ≡ true → acts t (p .x ∷ p .y ∷ []) ts ≡ true) → (leads t (p .x ∷ p .y ∷ []) u || acts t (p .x ∷ p .y ∷ []) ts) ≡ true
-      go true x y k = or-left _ _ (true-and (and-true (eqb (u .action) c) (enabled u (p .x) (p .y)) x .1) (ap (holds t) (let z : fire u p ≡ q = cc in z) ∙ h))
-      go false x y k = or-right (leads t (p .x ∷ p .y ∷ []) u) _ (k y h)
+      a : WaitsAdded u w l (least s)
+      a = subst (WaitsAdded u w l) i a₀
 
-  fitting-alive : (t : List ℕ) → Sound s t → (p : Configuration) → Stands s p → fitting t p ≡ true → alive p ≡ true
-  unfolding belongs waited Bounded
-  fitting-alive t f p h e = lives-alive p h (⊎-elim here (λ k. ⊎-elim ticks acting (or-cases _ _ k)) (or-cases _ _ e))
-    where
-      from : (q : Configuration) → Stands s q → holds t q ≡ true → Lives q
-      from q g k = alive-lives q g (f .live (q .location) (q .x ∷ q .y ∷ []) g k)
+      tick-used : (y : ℕ) → least s ≤ y → y ≤ top → least s ≤ min (y + 1) top
+      tick-used y q o = omega arith
 
-      ticks : holds t (advance 1 p) ≡ true → Lives p
-      ticks k = tick (from (advance 1 p) (tick-stands p h) k)
+      kept : (x y : ℕ) → x ≤ top → least s ≤ y → y ≤ top → member u l x y ≡ true → member w l x y ≡ true
+      kept x y p q o k = a .all x y p q o (waits-none u l x y p o k)
 
-      acting : acts t (p .x ∷ p .y ∷ []) (transitions s (p .location)) ≡ true → Lives p
-      acting k =
-          let l = acts-leads t p [] (transitions s (p .location)) refl (bounded s loads (p .location)) k in
-          act (l .by) (l .known) (l .steps) (from (l .to) (step-stands s loads (l .by) p (l .to) h (l .steps)) (l .held))
+  pub turns-none : {t u : List ℕ} {l set e : ℕ} {b : Bool} → b ≡ false → Turns s t u l set e b → e ≡ offset s l + size s l → Ticked s t l → Improved s t u l set false
+  turns-none {t} {u} {l} {set} {e} {b} h f₀ d k = let f = subst (Turns s t u l set e) h f₀ in record { gained = f .gained; settled = λ q r i. f .settled q r (omega (arith, r .inside)) i; ticked = gained-same (f .gained) (λ v. Ticked s v l) refl k }
 
-  -- A table that has what belongs in it has all that is live.
-  closed-holds : (t : List ℕ) → ((p : Configuration) → Stands s p → fitting t p ≡ true → holds t p ≡ true) → (p : Configuration) → Lives p → Stands s p → holds t p ≡ true
-  unfolding belongs waited step
-  closed-holds t k p (here {p = z} e) h = k z h (or-left _ _ e)
-  closed-holds t k p (tick {p = z} g) h = k z h (or-right (accepting s (z .location)) _ (or-left _ _ (closed-holds t k (advance 1 z) g (tick-stands z h))))
-  closed-holds t k p (act {p = z} {q = q} c b e g) h =
-      k z h (or-right (accepting s (z .location)) _ (or-right (holds t (advance 1 z)) _ (leads-acts t z q c (transitions s (z .location)) e (closed-holds t k q g (step-stands s loads c z q h e)))))
-
-  -- ---- The sets of a table
-
-  -- The set at a pair of readings is stored anew.
-  sound-set : (t r : List ℕ) (v : ℕ) → Sound s t → Valuation s r → Grown s t r (locations s) v → Sound s (set t (place r) v)
-  sound-set t r v f h g = record { sized = length-set t (place r) v ∙ f .sized; live = λ l q k e. live l q k (eqb (place q) (place r)) refl e }
-    where
-      inside : place r < length t
-      inside = omega (arith, h .readings .first, h .readings .second, f .sized)
-
-      live : (l : ℕ) (q : List ℕ) → Standing s l q → (b : Bool) → eqb (place q) (place r) ≡ b → has (set t (place r) v) l q ≡ true → alive (located l q) ≡ true
-      live l q k false e x = f .live l q k (ap (λ (n : ℕ). bit n l) (sym (getD-set-other t (place r) (place q) v 0 (eqb-false (place q) (place r) e))) ∙ x)
-      live l q k true e x =
-          let z = place-same r q (h .readings) (k .readings) (eqb-true (place q) (place r) e) in
-          let same : located l q ≡ located l r = configuration-path (z .0) (z .1) in
-          let y : Standing s l r = record { in-sheet = k .in-sheet; readings = h .readings; one-clock = h .one-clock } in
-          let w : bit v l ≡ true = ap (λ (n : ℕ). bit n l) (sym (getD-set-same t (place r) v 0 inside) ∙ ap (λ (i : ℕ). getD (set t (place r) v) i 0) (sym (eqb-true (place q) (place r) e))) ∙ x in
-          ap alive same ∙ ⊎-elim (f .live l r y) (λ n. fitting-alive t f (located l r) (stands y) (ap (belongs s t l) (sym (two-readings r (h .readings .two))) ∙ n)) (g .only l w)
-
-  pub improve-same : (t r : List ℕ) (i v : ℕ) → Sound s t → Grown s t r (locations s) v → i ≡ place r → v ≡ getD t i 0 → Progress s t t false (Closed s t r)
-  improve-same t r i v f g d e = record { sound = f; larger = λ x. absurd (false≢true x); same = λ _. (refl, λ l h k. ap (λ (n : ℕ). bit n l) (ap (λ (j : ℕ). getD t j 0) (sym d) ∙ sym e) ∙ g .all l h k) }
-
-  pub improve-more : (t r : List ℕ) (i v : ℕ) → Sound s t → Valuation s r → Grown s t r (locations s) v → v ≤ 65535 → i ≡ place r → (v ≡ getD t i 0 → ⊥) → Progress s t (set t i v) true (Closed s t r)
-  improve-more t r i v f h g small e ne =
-      rw e (record {
-        sound = sound-set t r v f h g;
-        larger = λ _. slack-set t (place r) v (omega (arith, h .readings .first, h .readings .second, f .sized)) (lt-of-le-ne (g .grows) (λ x. ne (sym x ∙ ap (λ (j : ℕ). getD t j 0) (sym e)))) small;
-        same = λ x. absurd (true≢false x);
-      })
-
-  -- A table of empty sets.
-  pub empty-sound : Sound s (replicate area 0)
-  empty-sound = record { sized = length-replicate {A = ℕ} area 0; live = λ l r h e. absurd (false≢true (sym (ap (λ (n : ℕ). bit n l) (zero-at area (place r)) ∙ bit-none l) ∙ e)) }
+  -- An accepting location has every configuration.
+  pub accepting-done : {t : List ℕ} {l : ℕ} (set : ℕ) → l < locations s → Sound s t → Full s t → Ticked s t l → accepting s l ≡ true → Improved s t t l set false
+  accepting-done {t} {l} set h f g k e = record { gained = gained-refl l f; settled = λ q r i. inr (λ x y p j o d. g l x y (omega (arith, header s loads .locations-fit)) p j o e); ticked = k }
 
   -- ---- Sweeps
 
-  pub sweep-begun : (t : List ℕ) (n : ℕ) → n ≡ valuations s → Sound s t → Progress s t t false (DoneFrom s t (eqb (clocks s) 1) n)
-  sweep-begun t n e f = record { sound = f; larger = λ x. absurd (false≢true x); same = λ _. (refl, λ k h i. absurd (omega arith)) }
+  pub sweep-begun : {t : List ℕ} {set : ℕ} → Unsettled s t set → Sweeping s t t set 0 0
+  sweep-begun f = record {
+    sound = f .sound;
+    full = f .full;
+    ticked = f .ticked;
+    included = λ k q h r c e. ⊎-elim (λ z. absurd (omega arith)) (f .included k q h r) c;
+    grows = omega arith;
+    larger = λ n. absurd (n refl);
+  }
 
-  pub sweep-more : {t u w : List ℕ} {a b : Bool} {C D E : Type 0} → Progress s t u a C → Progress s u w b D → b ≡ true → Progress s t w true E
-  sweep-more {t} {u} {w} {a} f g x = record { sound = g .sound; larger = λ _. go a refl; same = λ y. absurd (true≢false y) }
+  module _ {t u w : List ℕ} {set l next : ℕ} {b : Bool} (h : l < locations s) (f : Sweeping s t u set l next) (g : Improved s u w l set b) where
+    ticked-next : (k : ℕ) → k < locations s → Ticked s w k
+    ticked-next k i = same-or k l (λ e. subst⁻¹ (Ticked s w) e (g .ticked)) (λ ne. ticked-other (g .gained) k ne (f .ticked k i))
+
+    full-next : Full s w
+    full-next k x y i p j o e = gained-kept (g .gained) k x y p j o (f .full k x y i p j o e)
+
+    -- Locations of the next set have gained.
+    module _ (next' : ℕ) (clear : (j : ℕ) → bit next' j ≡ false → (bit next j ≡ false) × (b ≡ true → j ≡ l → ⊥)) where
+      ruled-kept : (k q : ℕ) → bit next' (byte s (q + 1)) ≡ false → Included s u k (transitionAt s q) → Included s w k (transitionAt s q)
+      ruled-kept k q e z = go b refl
+        where
+          go : (c : Bool) → b ≡ c → Included s w k (transitionAt s q)
+          go true d = ruled-on (g .gained) k (transitionAt s q) (clear (byte s (q + 1)) e .1 d) z
+          go false d = gained-same (g .gained) (λ v. Included s v k (transitionAt s q)) d z
+
+      ruled-here : (q : ℕ) → Place s l q → bit next' (byte s (q + 1)) ≡ false → Included s w l (transitionAt s q)
+      ruled-here q r e = go (bit set (byte s (q + 1))) refl
+        where
+          go : (c : Bool) → bit set (byte s (q + 1)) ≡ c → Included s w l (transitionAt s q)
+          go true d = ⊎-elim (λ z. absurd (clear (byte s (q + 1)) e .1 (z .0) (z .1))) (λ z. z) (g .settled q r d)
+          go false d = ruled-kept l q e (f .included l q h r (inr d) (clear (byte s (q + 1)) e .0))
+
+      ruled-next : (k q : ℕ) → k < locations s → Place s k q → (k < l + 1) ⊎ (bit set (byte s (q + 1)) ≡ false) → bit next' (byte s (q + 1)) ≡ false → Included s w k (transitionAt s q)
+      ruled-next k q i r c e = same-or k l (λ d. subst⁻¹ (λ (j : ℕ). Included s w j (transitionAt s q)) d (ruled-here q (subst (λ (j : ℕ). Place s j q) d r) e)) (λ ne. ruled-kept k q e (f .included k q i r (⊎-elim (λ z. inl (omega arith)) inr c) (clear (byte s (q + 1)) e .0)))
+
+    pub sweep-none : b ≡ false → Sweeping s t w set (l + 1) next
+    sweep-none e = record {
+      sound = g .gained .sound;
+      full = full-next;
+      ticked = ticked-next;
+      included = ruled-next next (λ j d. (d, λ z. absurd (false≢true (sym e ∙ z))));
+      grows = rw (g .gained .same e) (f .grows);
+      larger = λ n. rw (g .gained .same e) (f .larger n);
+    }
+
+    pub sweep-more : (next' : ℕ) → b ≡ true → Added next l next' → Sweeping s t w set (l + 1) next'
+    sweep-more next' e a = record {
+      sound = g .gained .sound;
+      full = full-next;
+      ticked = ticked-next;
+      included = ruled-next next' clear;
+      grows = omega (arith, f .grows, g .gained .larger e);
+      larger = λ n. omega (arith, f .grows, g .gained .larger e);
+    }
+      where
+        clear : (j : ℕ) → bit next' j ≡ false → (bit next j ≡ false) × (b ≡ true → j ≡ l → ⊥)
+        clear j d = go (eqb j l) refl (bit next j) refl (sym (a .bits j) ∙ d)
+          where
+            go : (c : Bool) → eqb j l ≡ c → (o : Bool) → bit next j ≡ o → (c || o) ≡ false → (bit next j ≡ false) × (b ≡ true → j ≡ l → ⊥)
+            go true x o y z = absurd (true≢false z)
+            go false x true y z = absurd (true≢false z)
+            go false x false y z = (y, λ _ k. eqb-false j l x k)
+
+  pub sweep-ended : {t u : List ℕ} {set l next : ℕ} → Sweeping s t u set l next → locations s ≤ l → Swept s t u next
+  sweep-ended f h = record {
+    pending = record { sound = f .sound; full = f .full; ticked = f .ticked; included = λ k q i r e. f .included k q i r (inl (omega arith)) e };
+    grows = f .grows;
+    larger = f .larger;
+  }
+
+  -- ---- The first rows
+
+  module _ {u : List ℕ} (f : Filled (replicate allRows 0) u (word s 4)) where
+    filled-only : (l x y : ℕ) → y ≤ top → member u l x y ≡ true → accepting s l ≡ true
+    filled-only l x y h e = go (accepting s l) refl
+      where
+        go : (b : Bool) → accepting s l ≡ b → b ≡ true
+        go true d = refl
+        go false d = absurd (false≢true (sym (f .other l x y h d ∙ ap (λ (n : ℕ). bit n x) (zero-at allRows (l * width + y)) ∙ bit-none x) ∙ e))
+
+    filled-full : Full s u
+    filled-full l x y h p j o e = f .full l x y h p o e
+
+    few : {l : ℕ} → l < locations s → l < maxCount
+    few h = omega (arith, header s loads .locations-fit)
+
+    first-pending : Unsettled s u (word s 4)
+    unfolding leads
+    first-pending = record {
+      sound = record { sized = f .sized ∙ length-replicate {A = ℕ} allRows 0; live = λ l x y h e. lives-alive l x y h (here (filled-only l x y (h .second) e)) };
+      full = filled-full;
+      ticked = λ l h x y p q o e. filled-full l x y (few h) p q o (filled-only l (min (x + 1) top) (min (y + 1) top) (omega arith) e);
+      included = λ l q h r e x y p j o d. absurd (false≢true (sym e ∙ filled-only (byte s (q + 1)) (keptFirst (transitionAt s q) x) (keptSecond (transitionAt s q) y) (cond-most (bit (byte s (q + 2)) 1) y top o) (and-cases (enabled (transitionAt s q) x y) _ d .1)));
+    }
+
+  pub filled-pending : {u : List ℕ} (v : ℕ) → v ≡ word s 4 → Filled (replicate allRows 0) u v → Unsettled s u v
+  filled-pending {u} v e f = subst⁻¹ (Unsettled s u) e (first-pending (subst (Filled (replicate allRows 0) u) e f))
+
+  -- ---- The last rows
+
+  abbrev holds : List ℕ → Configuration → Bool
+  holds t p = member t (p .location) (p .x) (p .y)
+
+  abbrev Stood : Configuration → Type 0
+  Stood p = Stands s (p .location) (p .x) (p .y)
+
+  first-stands : (ts : List Transition) → AllFit s ts → (c : ℕ) (p q : Configuration) → Stood p → fireFirst ts c p ≡ some q → Stood q
+  unfolding fireFirst
+  first-stands [] f c p q h e = let z : _≡_ {A = ℕ} 0 1 = cc in absurd (omega arith)
+  first-stands (u ∷ ts) f c p q h e = go (eqb (u .action) c && enabled u (p .x) (p .y)) e (first-stands ts (f .1) c p q h)
     where
-      go : (c : Bool) → a ≡ c → slack w < slack t
-      go true e = omega (arith, f .larger e, g .larger x)
-      go false e = subst (λ (z : List ℕ). slack w < slack z) (f .same e .0) (g .larger x)
+      go : (b : Bool) → cond b (some (fire u p)) (fireFirst ts c p) ≡ some q → (fireFirst ts c p ≡ some q → Stood q) → Stood q
+      go true x k = subst Stood (let y : fire u p ≡ q = cc in y) (fire-stands (f .0) h)
+      go false x k = k x
 
-  pub sweep-same : (n : ℕ) {t u w r : List ℕ} {a b : Bool} → 0 < n → r ≡ valuation s (n - 1) → Progress s t u a (DoneFrom s t (eqb (clocks s) 1) n) → Progress s u w b (Closed s u r) → b ≡ false → Progress s t w a (DoneFrom s t (eqb (clocks s) 1) (n - 1))
-  sweep-same n {t} {u} {w} {r} pos d f g x =
-      let z : w ≡ u = g .same x .0 in
-      record {
-        sound = g .sound;
-        larger = λ e. subst⁻¹ (λ (y : List ℕ). slack y < slack t) z (f .larger e);
-        same = λ e. (z ∙ f .same e .0, λ k h i. ⊎-elim (λ y. subst (Closed s t) (d ∙ ap (valuation s) y) (subst (λ (v : List ℕ). Closed s v r) (f .same e .0) (g .same x .1))) (λ y. f .same e .1 k (omega arith) i) (eq-or-lt-of-le h));
-      }
+  step-stands : (c : ℕ) (p q : Configuration) → Stood p → step (automaton s) c p ≡ some q → Stood q
+  unfolding step Bounded
+  step-stands c p q h e = first-stands (transitions s (p .location)) (bounded s loads (p .location)) c p q h e
 
-  pub sweep-ended : (n : ℕ) {t u : List ℕ} {a : Bool} → n ≤ 0 → Progress s t u a (DoneFrom s t (eqb (clocks s) 1) n) → Progress s t u a ((k : ℕ) → k < valuations s → Closed s t (valuation s k))
-  sweep-ended n h f = record { sound = f .sound; larger = f .larger; same = λ e. (f .same e .0, λ k i. f .same e .1 k (omega arith) i) }
-
-  closed-at : (t : List ℕ) (one : Bool) → eqb (clocks s) 1 ≡ one → ((n : ℕ) → n < countOf one → Closed s t (nthOf one n)) → (p : Configuration) → Stands s p → fitting t p ≡ true → holds t p ≡ true
-  closed-at t true e f p h k =
-      let z : located (p .location) (p .x ∷ top ∷ []) ≡ p = configuration-path refl (sym (h .one-clock (eqb-true (clocks s) 1 e))) in
-      ap (holds t) (sym z) ∙ f (p .x) (omega (arith, h .readings .first)) (p .location) (h .in-sheet) (ap (fitting t) z ∙ k)
-  closed-at t false e f p h k =
-      let n : ℕ = p .x * width + p .y in
-      let z : located (p .location) (n / width ∷ n % width ∷ []) ≡ p = configuration-path (omega (arith, h .readings .second)) (omega (arith, h .readings .second)) in
-      ap (holds t) (sym z) ∙ f n (omega (arith, h .readings .first, h .readings .second)) (p .location) (h .in-sheet) (ap (fitting t) z ∙ k)
-
-  -- A sound table that a sweep leaves as it is.
-  table-right : (t : List ℕ) → Sound s t → ((n : ℕ) → n < valuations s → Closed s t (valuation s n)) → LiveTable s t
-  table-right t f g = record { sized = f .sized; right = λ l r h. go l r h (has t l r) refl (alive (located l r)) refl }
+  first-holds : (t : List ℕ) (c : ℕ) (p q : Configuration) (ts : List Transition) → Stood p → Every (Included s t (p .location)) ts → fireFirst ts c p ≡ some q → holds t q ≡ true → holds t p ≡ true
+  unfolding fireFirst leads
+  first-holds t c p q [] h f e k = let z : _≡_ {A = ℕ} 0 1 = cc in absurd (omega arith)
+  first-holds t c p q (u ∷ ts) h f e k = go (eqb (u .action) c && enabled u (p .x) (p .y)) refl e (first-holds t c p q ts h (f .1))
     where
-      go : (l : ℕ) (r : List ℕ) → Standing s l r → (a : Bool) → has t l r ≡ a → (b : Bool) → alive (located l r) ≡ b → a ≡ b
-      go l r h true e b k = sym (f .live l r h e) ∙ k
-      go l r h false e false k = refl
-      go l r h false e true k = sym e ∙ closed-holds t (closed-at t (eqb (clocks s) 1) refl g) (located l r) (alive-lives (located l r) (stands h) k) (stands h)
+      go : (b : Bool) → (eqb (u .action) c && enabled u (p .x) (p .y)) ≡ b → cond b (some (fire u p)) (fireFirst ts c p) ≡ some q → (fireFirst ts c p ≡ some q → holds t q ≡ true → holds t p ≡ true) → holds t p ≡ true
+      go true x y z = f .0 (p .x) (p .y) (h .first) (h .used) (h .second) (true-and (and-cases (eqb (u .action) c) (enabled u (p .x) (p .y)) x .1) (ap (holds t) (let d : fire u p ≡ q = cc in d) ∙ k))
+      go false x y z = z y k
 
-  pub sweeps-ended : {t u : List ℕ} {b : Bool} → Progress s t u b ((n : ℕ) → n < valuations s → Closed s t (valuation s n)) → b ≡ false → LiveTable s u
-  sweeps-ended {u = u} f e = table-right u (f .sound) (subst⁻¹ (λ (v : List ℕ). (n : ℕ) → n < valuations s → Closed s v (valuation s n)) (f .same e .0) (f .same e .1))
+  -- Rows that nothing can still join have all that is live.
+  module _ {t : List ℕ} (f : Unsettled s t 0) where
+    closed-holds : (p : Configuration) → Live (step (automaton s)) (accepting s) (actions s) p → Stood p → holds t p ≡ true
+    unfolding step
+    closed-holds p (here {p = z} e) h = f .full (z .location) (z .x) (z .y) (omega (arith, h .in-sheet, header s loads .locations-fit)) (h .first) (h .used) (h .second) e
+    closed-holds p (tick {p = z} g) h = f .ticked (z .location) (h .in-sheet) (z .x) (z .y) (h .first) (h .used) (h .second) (closed-holds (advance 1 z) g (tick-stands h))
+    closed-holds p (act {p = z} {q = q} c b e g) h =
+        first-holds t c z q (transitions s (z .location)) h (places-every s loads (z .location) (h .in-sheet) (Included s t (z .location)) (λ i r. f .included (z .location) i (h .in-sheet) r (bit-none (byte s (i + 1))))) e (closed-holds q g (step-stands c z q h e))
+
+    rows-right : LiveSet s t
+    rows-right = record { sized = f .sound .sized; fits = header s loads .locations-fit; ticked = f .ticked; right = λ l r h. go l r h (member t l (getD r 0 0) (getD r 1 0)) refl (compile (automaton s) .live (located l r)) refl }
+      where
+        go : (l : ℕ) (r : List ℕ) → Standing s l r → (a : Bool) → member t l (getD r 0 0) (getD r 1 0) ≡ a → (b : Bool) → compile (automaton s) .live (located l r) ≡ b → a ≡ b
+        go l r h true e b k = sym (f .sound .live l (getD r 0 0) (getD r 1 0) (standing-stands h) e) ∙ k
+        go l r h false e false k = refl
+        go l r h false e true k = sym e ∙ closed-holds (located l r) (alive-lives l (getD r 0 0) (getD r 1 0) (standing-stands h) k) (standing-stands h)
+
+  pub sweeps-ended : {t : List ℕ} {set : ℕ} → Unsettled s t set → set ≡ 0 → LiveSet s t
+  sweeps-ended {t} f e = rows-right (subst (Unsettled s t) e f)
+
+  -- A sweep, and one more after it, come nearer to the end.
+  pub sweep-less : {t u : List ℕ} {next : ℕ} (set : ℕ) → Swept s t u next → (set ≡ 0 → ⊥) → slack u + min next 1 < slack t + min set 1
+  sweep-less {t} {u} {next} set f n = same-or next 0 (λ e. omega (arith, f .grows)) (λ ne. omega (arith, f .larger ne))
+
+-- ---- The table
+
+pub least-most : (one : Bool) → leastOf one ≤ top
+least-most true = omega arith
+least-most false = omega arith
+
+-- Counts of the live set are the table.
+pub table-counted : {s : Bytes} {t : List ℕ} (counts : List ℕ) (n from : ℕ) → LiveSet s t → n ≡ locations s → from ≡ least s → Counted t counts n from → LiveTable s counts
+table-counted {s} counts n from f e g c = record {
+  sized = c .sized;
+  fits = f .fits;
+  right = λ l r h. let z = standing-stands h in c .right l (getD r 0 0) (getD r 1 0) (omega (arith, z .in-sheet)) (z .first) (omega (arith, z .used)) (z .second) ∙ f .right l r h;
+}
+
+pub table-closed : {s : Bytes} {t : List ℕ} (n from : ℕ) → LiveSet s t → n ≡ locations s → from ≡ least s → (l : ℕ) → l < n → Closed t from l
+table-closed n from f e g l h = rw g (f .ticked l (omega arith))

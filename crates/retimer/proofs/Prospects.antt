@@ -24,6 +24,7 @@ use Rattle.retimer.specs.declared.lookup.Stepped.{Stepped}
 use Rattle.retimer.specs.Steps.{optional, StepRight}
 use Rattle.retimer.specs.Optimum.{encode, modelOf, Asked, PlanRight}
 use Rattle.retimer.specs.Search.{leftAt, playedNow, laterOf, nextAt, configurationAt, placesFor, PlaceRight, Known, Searching}
+use Rattle.retimer.proofs.Arrays.{zero-at}
 
 -- ---- Numbers for prospects
 
@@ -221,11 +222,6 @@ known-set s cs memo i k l r v w p h g = record { right = λ j. go j (eqb j i) re
     go j false t q = rw (getD-set-other memo i j (v + 1) 0 (eqb-false j i t)) (w .right j (rw (getD-set-other memo i j (v + 1) 0 (eqb-false j i t)) at q))
 
 -- A memo of zeros knows nothing.
-zero-at : (n i : ℕ) → _≡_ {A = ℕ} (getD (replicate n 0) i 0) 0
-zero-at zero i = refl
-zero-at (suc n) zero = refl
-zero-at (suc n) (suc i) = zero-at n i
-
 pub known-none : (s : Bytes) (cs : List ℕ) (n : ℕ) → Known s cs (replicate n 0)
 known-none s cs n = record { right = λ i h. absurd (go i h) }
   where

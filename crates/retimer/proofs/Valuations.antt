@@ -1,6 +1,6 @@
 -- Laws of the readings: waiting, resets, the bound test, and the configurations that they make.
 -- Assumes nothing.
-use mathlib.Core.Path.{_≡_, refl, sym}
+use mathlib.Core.Path.{_≡_, refl}
 use mathlib.Core.Bool.{Bool, true, false, cond, _||_}
 use mathlib.Core.List.{List, [], _∷_}
 use Prim.Native.Nat.{ℕ, _+_, _≤_, _<_, _/_, _%_, min}
@@ -8,10 +8,10 @@ use native.Mathlib.Omega.{arith}
 use lib.Dec.{leb, eqb}
 use lib.ListN.{getD}
 use borrow.Author.Tests.{eqb-true, le-leb, lt-leb}
-use Rattle.enforcement.specs.Automaton.{Bytes, Transition, automaton, bit, clocks, within}
+use Rattle.enforcement.specs.Automaton.{Bytes, Transition, bit, within}
 use Rattle.enforcement.specs.Loading.{Fits}
 use Rattle.enforcement.specs.TimedWord.{fire}
-use Rattle.enforcement.specs.Model.{top, oneClock, saturated, advance}
+use Rattle.enforcement.specs.Model.{top, advance}
 use Rattle.retimer.specs.Readings.{Readings, waited, resetBy, located, Standing}
 
 -- ---- The bound test
@@ -33,7 +33,7 @@ pub waited-readings : (n : ℕ) (r : List ℕ) → Readings (waited n r)
 unfolding waited
 waited-readings n r = record { two = refl; first = omega arith; second = omega arith }
 
-cond-most : (b : Bool) (x n : ℕ) → x ≤ n → cond b 0 x ≤ n
+pub cond-most : (b : Bool) (x n : ℕ) → x ≤ n → cond b 0 x ≤ n
 cond-most true x n h = omega arith
 cond-most false x n h = h
 
@@ -79,18 +79,3 @@ standing-waited s l n r h = record { in-sheet = h .in-sheet; readings = waited-r
 pub standing-fired : (s : Bytes) (l : ℕ) (r : List ℕ) (t : Transition) → Fits s t → Standing s l r → Standing s (t .target) (resetBy (t .resets) r)
 unfolding resetBy
 standing-fired s l r t f h = record { in-sheet = f .target-fits; readings = reset-readings (t .resets) (h .readings); one-clock = λ e. rw (f .one-clock e .kept) (h .one-clock e) }
-
--- With one clock the second reading is saturated.
-pub one-clock-saturated : (s : Bytes) (l : ℕ) (r : List ℕ) → Standing s l r → oneClock (automaton s) ≡ true → getD r 1 0 ≡ top
-one-clock-saturated s l r h e = h .one-clock (eqb-true (clocks s) 1 e)
-
--- A configuration as the code holds it is saturated.
-pub standing-saturated : (s : Bytes) (l : ℕ) (r : List ℕ) → Standing s l r → saturated (oneClock (automaton s)) (located l r) ≡ located l r
-standing-saturated s l r h =
-    let e : min (getD r 0 0) top ≡ getD r 0 0 = omega (arith, h .readings .first) in
-    let f = go (oneClock (automaton s)) refl in
-    cc
-  where
-    go : (b : Bool) → oneClock (automaton s) ≡ b → cond b top (min (getD r 1 0) top) ≡ getD r 1 0
-    go true e = sym (one-clock-saturated s l r h e)
-    go false e = omega (arith, h .readings .second)

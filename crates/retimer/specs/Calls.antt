@@ -1,16 +1,17 @@
 -- What the calls of the box promise.
 use mathlib.Core.Path.{_≡_}
+use mathlib.Core.Bool.{true, false}
 use mathlib.Core.List.{List, _∷_, [], _++_}
-use Prim.Native.Nat.{ℕ, _+_, _-_, _≤_}
+use Prim.Native.Nat.{ℕ, _+_, _-_, _≤_, max}
 use lib.Dec.{ltb}
 use lib.ListN.{length, take, getD, replicate}
 use Rattle.enforcement.specs.Limits.{maxSize, maxCount, maxScheduled, maxDate}
 use Rattle.enforcement.specs.Automaton.{Bytes}
 use Rattle.enforcement.specs.Loading.{Loads, check}
 use Rattle.enforcement.specs.History.{History, Call, actionsOf, Outcome, scheduled, held, dropped, played, nothing, lit, dark, refused}
-use Rattle.enforcement.specs.Model.{area}
 use Rattle.enforcement.specs.Monitor as model
-use Rattle.enforcement.specs.Monitor.{answer, freshMonitor, placed, earliest, standing, joins, walk}
+use Rattle.enforcement.specs.Model.{ticks, prospect}
+use Rattle.enforcement.specs.Monitor.{answer, freshMonitor, checked, placed, earliest, standing, joins, walk}
 use Rattle.enforcement.specs.Demands.{StandsFor, Demand2}
 use Rattle.retimer.specs.declared.limits.Monitor.{Monitor}
 use Rattle.retimer.specs.declared.monitor.Answer.{Answer}
@@ -20,7 +21,8 @@ use Rattle.retimer.specs.declared.monitor.Loaded.{Loaded}
 use Rattle.retimer.specs.declared.reason.Reason.{Reason}
 use Rattle.retimer.specs.Reasons.{reasonOf}
 use Rattle.retimer.specs.Checked.{checkedOf}
-use Rattle.retimer.specs.Readings.{located, Standing}
+use Rattle.retimer.specs.Readings.{waited, located, Standing}
+use Rattle.retimer.specs.Counts.{countsSize}
 use Rattle.retimer.specs.Optimum.{modelOf}
 use Rattle.retimer.specs.View.{bytesOf, automatonOf, viewOf, Sound, Valid}
 
@@ -58,7 +60,20 @@ lastAction b cs = getD cs (b .held) 0
 abbrev pub newDates : Monitor → List ℕ → List ℕ
 newDates b ds = take (b .held + 1) ds
 
--- What case 1 is given: the pending actions with one more, their dates, and the configuration that these reach.
+-- What an offer answers that passed the first checks.
+abbrev pub decidedOf : Monitor → ℕ → ℕ → model.Answered
+decidedOf b c t = checked (modelOf (bytesOf b)) (viewOf b) c t true false false
+
+-- What case 1 is given at first: the pending actions with one more, which have a correction, and where it starts.
+pub record CorrectAsked (b : Monitor) (t : ℕ) (cs : List ℕ) (start : ℕ) (here : List ℕ) : Type 0 where
+  pub sound : Sound b
+  pub early : t ≤ maxDate
+  pub start-is : start ≡ max t (b .last)
+  pub here-is : here ≡ waited (start - b .last) (b .readings)
+  pub joined : take (b .held + 1) cs ≡ take (b .held) (b .pending) ++ (lastAction b cs ∷ [])
+  pub correctable : (n : ℕ) × (prospect (modelOf (bytesOf b)) (take (b .held + 1) cs) (located (b .location) here) ≡ ticks n)
+
+-- What it is given then: the pending actions with one more, their dates, and the configuration that these reach.
 pub record PlaceAsked (b : Monitor) (t : ℕ) (cs ds : List ℕ) (l : ℕ) (r : List ℕ) : Type 0 where
   pub sound : Sound b
   pub early : t ≤ maxDate
@@ -88,7 +103,7 @@ pub record FreshRight (s : Bytes) (b : Monitor) : Type 0 where
 
 -- What stands in the box's place where there is none: no sheet, and zeros throughout.
 unfoldable pub noMonitor : Monitor
-noMonitor = record { bytes = replicate maxSize 0; size = 0; live = replicate area 0; date = 0; pending = replicate maxCount 0; held = 0; schedule = replicate maxScheduled (record { action = 0; date = 0 }); planned = 0; location = 0; readings = 0 ∷ 0 ∷ []; last = 0 }
+noMonitor = record { bytes = replicate maxSize 0; size = 0; live = replicate countsSize 0; date = 0; pending = replicate maxCount 0; held = 0; schedule = replicate maxScheduled (record { action = 0; date = 0 }); planned = 0; location = 0; readings = 0 ∷ 0 ∷ []; last = 0 }
 
 -- What a load promises: the check's answer; where that accepts the sheet, a fresh box; where it does not, no box.
 pub record LoadRight (s : Bytes) (r : Loaded) : Type 0 where

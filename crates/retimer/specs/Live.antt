@@ -1,95 +1,111 @@
 -- What the table of live configurations promises, and the words of the functions that find it.
 use mathlib.Core.Path.{_≡_}
-use mathlib.Core.Bool.{Bool, true, false, cond, _&&_, _||_}
-use mathlib.Core.List.{List, [], _∷_}
+use mathlib.Core.Bool.{Bool, true, false, cond}
+use mathlib.Core.List.{List}
 use mathlib.Core.Logic.{_⊎_}
-use Prim.Native.Nat.{ℕ, _+_, _*_, _-_, _/_, _%_, _≤_, _<_}
+use Prim.Native.Nat.{ℕ, _+_, _-_, _%_, _≤_, _<_, min}
 use lib.Dec.{eqb}
 use lib.ListN.{length, getD}
-use Rattle.enforcement.specs.Automaton.{Bytes, Transition, automaton, bit, accepting, clocks, locations, transitions, enabled}
-use Rattle.enforcement.specs.Model.{top, width, area, compile}
-use Rattle.retimer.specs.Readings.{Readings, waited, resetBy, located, Standing}
-
--- The table has a configuration: a set of locations for each pair of readings.
-abbrev pub has : List ℕ → ℕ → List ℕ → Bool
-has t l r = bit (getD t (getD r 0 0 * width + getD r 1 0) 0) l
+use Rattle.enforcement.specs.Limits.{maxCount}
+use Rattle.enforcement.specs.Automaton.{Bytes, Transition, automaton, byte, bit, accepting, clocks, locations, offset, size, transitionAt}
+use Rattle.enforcement.specs.Model.{top, compile}
+use Rattle.retimer.specs.Readings.{Standing, located}
+use Rattle.retimer.specs.Counts.{countsSize, counted}
+use Rattle.retimer.specs.Leading.{allRows, member, slack, leads, Others}
 
 -- The table has exactly the configurations from which an accepting location can still be reached.
 pub record LiveTable (s : Bytes) (t : List ℕ) : Type 0 where
-  pub sized : length t ≡ area
-  pub right : (l : ℕ) (r : List ℕ) → Standing s l r → has t l r ≡ compile (automaton s) .live (located l r)
+  pub sized : length t ≡ countsSize
+  pub fits : locations s ≤ maxCount
+  pub right : (l : ℕ) (r : List ℕ) → Standing s l r → counted t l (getD r 0 0) (getD r 1 0) ≡ compile (automaton s) .live (located l r)
 
--- ---- How the table is found
+-- ---- How it is found
 
--- The number of a pair of readings in the table.
-abbrev pub place : List ℕ → ℕ
-place r = getD r 0 0 * width + getD r 1 0
+-- The least second reading that occurs: with one clock only the saturated one does.
+abbrev pub leastOf : Bool → ℕ
+leastOf one = cond one top 0
 
--- v is a set with l added.
-pub record Added (set l v : ℕ) : Type 0 where
-  pub bits : (j : ℕ) → bit v j ≡ (eqb j l || bit set j)
-  pub grows : set ≤ v
+abbrev pub least : Bytes → ℕ
+least s = leastOf (eqb (clocks s) 1)
 
--- A transition is enabled at the readings r and leads into the table.
-unfoldable pub leads : List ℕ → List ℕ → Transition → Bool
-leads t r u = enabled u (getD r 0 0) (getD r 1 0) && has t (u .target) (resetBy (u .resets) r)
+-- A configuration of the automaton, with readings up to saturation.
+pub record Stands (s : Bytes) (l x y : ℕ) : Type 0 where
+  pub in-sheet : l < locations s
+  pub first : x ≤ top
+  pub second : y ≤ top
+  pub used : least s ≤ y
 
--- One of some transitions does.
-unfoldable pub acts : List ℕ → List ℕ → List Transition → Bool
-acts t r [] = false
-acts t r (u ∷ us) = leads t r u || acts t r us
+-- An accepting location can still be reached.
+abbrev pub alive : Bytes → ℕ → ℕ → ℕ → Bool
+alive s l x y = compile (automaton s) .live (record { location = l; x = x; y = y })
 
--- The location l at the readings r belongs in the table: it is accepting, or a tick or an action leads into the table.
-unfoldable pub belongs : Bytes → List ℕ → ℕ → List ℕ → Bool
-belongs s t l r = accepting s l || (has t l (waited 1 r) || acts t r (transitions s l))
-
--- A valuation of the automaton's clocks.
-pub record Valuation (s : Bytes) (r : List ℕ) : Type 0 where
-  pub readings : Readings r
-  pub one-clock : clocks s ≡ 1 → getD r 1 0 ≡ top
-
--- How many valuations occur, and the nth: with one clock only the first reading varies.
-abbrev pub countOf : Bool → ℕ
-countOf one = cond one width area
-
-abbrev pub valuations : Bytes → ℕ
-valuations s = countOf (eqb (clocks s) 1)
-
-abbrev pub nthOf : Bool → ℕ → List ℕ
-nthOf one n = cond one (n ∷ top ∷ []) (n / width ∷ n % width ∷ [])
-
-abbrev pub valuation : Bytes → ℕ → List ℕ
-valuation s n = nthOf (eqb (clocks s) 1) n
-
--- v is the set with l added if l belongs in the table at the readings r.
-pub record Joined (s t r : List ℕ) (set l v : ℕ) : Type 0 where
-  pub only : (j : ℕ) → bit v j ≡ true → (bit set j ≡ true) ⊎ ((j ≡ l) × (belongs s t l r ≡ true))
-  pub kept : (j : ℕ) → bit set j ≡ true → bit v j ≡ true
-  pub joins : belongs s t l r ≡ true → bit v l ≡ true
-  pub grows : set ≤ v
-
--- v is the set at the readings r with those of the first n locations that belong in it.
-pub record Grown (s t r : List ℕ) (n v : ℕ) : Type 0 where
-  pub only : (l : ℕ) → bit v l ≡ true → (has t l r ≡ true) ⊎ (belongs s t l r ≡ true)
-  pub all : (l : ℕ) → l < n → belongs s t l r ≡ true → bit v l ≡ true
-  pub grows : getD t (place r) 0 ≤ v
-
--- At these readings the table has what belongs in it.
-abbrev pub Closed : Bytes → List ℕ → List ℕ → Type 0
-Closed s t r = (l : ℕ) → l < locations s → belongs s t l r ≡ true → has t l r ≡ true
-
--- Every configuration of the table is live.
+-- Every configuration of the rows is live.
 pub record Sound (s : Bytes) (t : List ℕ) : Type 0 where
-  pub sized : length t ≡ area
-  pub live : (l : ℕ) (r : List ℕ) → Standing s l r → has t l r ≡ true → compile (automaton s) .live (located l r) ≡ true
+  pub sized : length t ≡ allRows
+  pub live : (l x y : ℕ) → Stands s l x y → member t l x y ≡ true → alive s l x y ≡ true
 
--- By how much the sets, as numbers, can still grow.
-abbrev pub slack : List ℕ → ℕ
-slack [] = 0
-slack (v ∷ t) = (65535 - v) + slack t
+-- A place of one of the transitions of a location.
+pub record Place (s : Bytes) (l q : ℕ) : Type 0 where
+  pub after : offset s l ≤ q
+  pub inside : q < offset s l + size s l
+  pub whole : (q - offset s l) % 7 ≡ 0
 
--- The table u comes from t: it is larger, or the same and then C holds.
-pub record Progress (s : Bytes) (t u : List ℕ) (changed : Bool) (C : Type 0) : Type 0 where
+-- The location l has the configurations from which the transition leads into the rows.
+abbrev pub Included : Bytes → List ℕ → ℕ → Transition → Type 0
+Included s t l v = (x y : ℕ) → x ≤ top → least s ≤ y → y ≤ top → leads t v x y ≡ true → member t l x y ≡ true
+
+-- The location l has the configurations from which a tick leads into its rows.
+abbrev pub Ticked : Bytes → List ℕ → ℕ → Type 0
+Ticked s t l = (x y : ℕ) → x ≤ top → least s ≤ y → y ≤ top → member t l (min (x + 1) top) (min (y + 1) top) ≡ true → member t l x y ≡ true
+
+-- The set has exactly the configurations from which an accepting location can still be reached.
+pub record LiveSet (s : Bytes) (t : List ℕ) : Type 0 where
+  pub sized : length t ≡ allRows
+  pub fits : locations s ≤ maxCount
+  pub right : (l : ℕ) (r : List ℕ) → Standing s l r → member t l (getD r 0 0) (getD r 1 0) ≡ compile (automaton s) .live (located l r)
+  pub ticked : (l : ℕ) → l < locations s → Ticked s t l
+
+-- The rows u come from t: only the location l has gained, if b.
+pub record Gained (s : Bytes) (t u : List ℕ) (l : ℕ) (b : Bool) : Type 0 where
   pub sound : Sound s u
-  pub larger : changed ≡ true → slack u < slack t
-  pub same : changed ≡ false → (u ≡ t) × C
+  pub others : Others t u l
+  pub kept : (x y : ℕ) → x ≤ top → least s ≤ y → y ≤ top → member t l x y ≡ true → member u l x y ≡ true
+  pub larger : b ≡ true → slack u < slack t
+  pub same : b ≡ false → u ≡ t
+
+-- The transition of l at the place q need not be looked at again, unless it leads to l, which has gained.
+abbrev pub Settled : Bytes → List ℕ → ℕ → Bool → ℕ → Type 0
+Settled s u l b q = ((b ≡ true) × (byte s (q + 1) ≡ l)) ⊎ Included s u l (transitionAt s q)
+
+-- The transition at the place q is looked at if its target is in the set.
+pub record Turn (s : Bytes) (t u : List ℕ) (l set q : ℕ) (b : Bool) : Type 0 where
+  pub gained : Gained s t u l b
+  pub settled : bit set (byte s (q + 1)) ≡ true → Settled s u l b q
+
+-- Those at the places below p are.
+pub record Turns (s : Bytes) (t u : List ℕ) (l set p : ℕ) (b : Bool) : Type 0 where
+  pub gained : Gained s t u l b
+  pub settled : (q : ℕ) → Place s l q → q < p → bit set (byte s (q + 1)) ≡ true → Settled s u l b q
+
+-- All are, and what a tick takes into the rows of l is in them.
+pub record Improved (s : Bytes) (t u : List ℕ) (l set : ℕ) (b : Bool) : Type 0 where
+  pub gained : Gained s t u l b
+  pub settled : (q : ℕ) → Place s l q → bit set (byte s (q + 1)) ≡ true → Settled s u l b q
+  pub ticked : Ticked s u l
+
+-- Accepting locations have every configuration.
+abbrev pub Full : Bytes → List ℕ → Type 0
+Full s t = (l x y : ℕ) → l < maxCount → x ≤ top → least s ≤ y → y ≤ top → accepting s l ≡ true → member t l x y ≡ true
+
+-- Only transitions whose target is in the set can still take a new configuration into the rows.
+pub record Unsettled (s : Bytes) (t : List ℕ) (set : ℕ) : Type 0 where
+  pub sound : Sound s t
+  pub full : Full s t
+  pub ticked : (l : ℕ) → l < locations s → Ticked s t l
+  pub included : (l q : ℕ) → l < locations s → Place s l q → bit set (byte s (q + 1)) ≡ false → Included s t l (transitionAt s q)
+
+-- After a sweep over all locations.
+pub record Swept (s : Bytes) (t u : List ℕ) (next : ℕ) : Type 0 where
+  pub pending : Unsettled s u next
+  pub grows : slack u ≤ slack t
+  pub larger : (next ≡ 0 → ⊥) → slack u < slack t

@@ -42,14 +42,8 @@ pub record PlanRight (s : Bytes) (cs : List ℕ) (l : ℕ) (r : List ℕ) (t : �
   pub reached : (n : ℕ) → prospect (modelOf s) cs (located l r) ≡ ticks n → located (v .location) (v .readings) ≡ walk (modelOf s .step) cs (dates (modelOf s) cs (located l r) t) t (located l r)
   pub standing : Standing s (v .location) (v .readings)
 
--- What the lamp is given.
+-- What the lamp and the decision are given.
 pub record LampAsked (s : Bytes) (live : List ℕ) (l : ℕ) (r : List ℕ) : Type 0 where
   pub loads : Loads s
   pub table : LiveTable s live
   pub standing : Standing s l r
-
--- The same with a list of actions.
-pub record ListAsked (s : Bytes) (live cs : List ℕ) (l : ℕ) (r : List ℕ) : Type 0 where
-  pub lamp : LampAsked s live l r
-  pub some-action : 1 ≤ length cs
-  pub few : length cs ≤ maxCount + 1

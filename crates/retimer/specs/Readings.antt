@@ -31,3 +31,8 @@ pub record Standing (s : Bytes) (l : ℕ) (r : List ℕ) : Type 0 where
   pub in-sheet : l < locations s
   pub readings : Readings r
   pub one-clock : clocks s ≡ 1 → getD r 1 0 ≡ top
+
+-- A valuation of the automaton's clocks as the code holds it.
+pub record Valuation (s : Bytes) (r : List ℕ) : Type 0 where
+  pub readings : Readings r
+  pub one-clock : clocks s ≡ 1 → getD r 1 0 ≡ top

@@ -1,12 +1,13 @@
 -- What the look-up of a transition promises.
 use mathlib.Core.Path.{_≡_}
 use mathlib.Core.Bool.{Bool, true, false, _&&_}
-use mathlib.Core.List.{List}
+use mathlib.Core.List.{List, [], _∷_}
+use mathlib.Core.Logic.{_⊎_}
 use mathlib.Core.Option.{Option, none, some}
 use Prim.Native.Nat.{ℕ, _+_, _≤_}
 use lib.Dec.{eqb}
 use lib.ListN.{length}
-use Rattle.enforcement.specs.Automaton.{Bytes, automaton, byte, transitionAt, enabled}
+use Rattle.enforcement.specs.Automaton.{Bytes, Transition, automaton, byte, transitionAt, enabled}
 use Rattle.enforcement.specs.Loading.{Fits}
 use Rattle.enforcement.specs.TimedWord.{Configuration, fire, step}
 use Rattle.retimer.specs.declared.lookup.Stepped.{Stepped}
@@ -40,3 +41,8 @@ pub record Taken (s : Bytes) (c l : ℕ) (r : List ℕ) (p : ℕ) : Type 0 where
 pub record Placed (s : Bytes) (c l : ℕ) (r : List ℕ) (p : ℕ) : Type 0 where
   pub nowhere : p ≡ 0 → step (automaton s) c (located l r) ≡ none
   pub somewhere : (p ≡ 0 → ⊥) → Taken s c l r p
+
+-- One of some transitions.
+abbrev pub One : (Transition → Type 0) → List Transition → Type 0
+One P [] = ⊥
+One P (u ∷ us) = P u ⊎ One P us

@@ -18,11 +18,26 @@ pub mod sheet;
 // The transition that an action takes.
 pub mod lookup;
 
+// Sets of locations.
+pub mod locations;
+
+// Sets of configurations.
+pub mod sets;
+
 // From where an accepting location can still be reached.
 pub mod liveness;
 
 // The least ticks for a list of actions, and their dates.
 pub mod optimum;
+
+// The waits at which a transition is enabled.
+pub mod waits;
+
+// What the next action comes to.
+pub mod outlook;
+
+// What a list of actions comes to.
+pub mod reach;
 
 // Whether a list of actions, or any next action, can still come to acceptance.
 pub mod lamp;

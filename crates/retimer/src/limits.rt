@@ -11,7 +11,7 @@ pub struct Slot {
 pub struct Monitor {
     pub bytes: [u8; Monitor::SIZE],
     pub size: usize,
-    pub live: [u16; Monitor::VALUATIONS],
+    pub live: [u8; Monitor::COUNTS],
     pub date: u32,
     pub pending: [u8; Monitor::COUNT],
     pub held: usize,
@@ -42,6 +42,12 @@ impl Monitor {
     pub const WIDTH: usize = Monitor::BOUND as usize + 2;
 
     pub const VALUATIONS: usize = Monitor::WIDTH * Monitor::WIDTH;
+    // The diagonals of a location's valuations, and those of all locations.
+    pub const DIAGONALS: usize = 2 * Monitor::WIDTH;
+
+    pub const COUNTS: usize = Monitor::COUNT * Monitor::DIAGONALS;
     // The most actions of a correction: what is pending and one more.
     pub const BATCH: usize = Monitor::COUNT + 1;
+    // No first correction takes more ticks: none of its actions waits longer than until both readings are saturated.
+    pub const LONGEST: u32 = Monitor::BATCH as u32 * Monitor::TOP as u32;
 }

@@ -6,11 +6,12 @@ use crate::limits::Slot;
 use crate::lists;
 use crate::liveness;
 use crate::optimum;
+use crate::outlook::Outlook;
+use crate::reach;
 use crate::reason::Reason;
 use crate::sheet;
 use crate::sheet::Checked;
 ghost use mathlib.Core.Path.{_≡_};
-ghost use mathlib.Core.Bool.{true, false};
 ghost use Prim.Native.Nat.{_+_, _-_, _≤_, _<_, max};
 ghost use lib.Dec.{leb};
 ghost use lib.ListN.{length};
@@ -19,9 +20,8 @@ ghost use Rattle.enforcement.specs.Automaton.{actions};
 ghost use Rattle.enforcement.specs.Loading.{Loads};
 ghost use Rattle.enforcement.specs.History.{offer, collect, lamp, nothing};
 ghost use Rattle.enforcement.specs.Monitor.{kept, dated, checked, oldest};
-ghost use Rattle.retimer.specs.Optimum.{modelOf};
 ghost use Rattle.retimer.specs.View.{bytesOf, viewOf, Sound, Valid};
-ghost use Rattle.retimer.specs.Calls.{refusal, Done, PlaceAsked, placedOf, CallRight, FreshRight, noMonitor, LoadRight};
+ghost use Rattle.retimer.specs.Calls.{refusal, Done, lastAction, decidedOf, CorrectAsked, PlaceAsked, placedOf, CallRight, FreshRight, noMonitor, LoadRight};
 
 // What a call answers.
 pub enum Answer {
@@ -63,13 +63,13 @@ impl Monitor {
         ensures { λ r. ⌜ FreshRight (now (s .entry)) r ⌝ }
     {
         let live = liveness::live_table(s);
-        let sets = live.sets;
+        let counts = live.counts;
         let bytes = lists::copied(s);
         let second = if s[1] == 1 { Monitor::TOP } else { 0 };
         Monitor {
             bytes,
             size: s.len(),
-            live: sets,
+            live: counts,
             date: 0,
             pending: [0u8; Monitor::COUNT],
             held: 0,
@@ -88,7 +88,7 @@ impl Monitor {
         Monitor {
             bytes: [0u8; Monitor::SIZE],
             size: 0,
-            live: [0u16; Monitor::VALUATIONS],
+            live: [0u8; Monitor::COUNTS],
             date: 0,
             pending: [0u8; Monitor::COUNT],
             held: 0,
@@ -155,7 +155,7 @@ impl Monitor {
     // An offer that passed the first checks.
     fn decide(self, c: u8, t: u32) -> Answered
         requires { ⌜ (Sound self) × (t ≤ maxDate) ⌝ }
-        ensures { λ r. ⌜ Done self (checked (modelOf (bytesOf self)) (viewOf self) c t true false false) r ⌝ }
+        ensures { λ r. ⌜ Done self (decidedOf self c t) r ⌝ }
     {
         let size = self.size;
         let held = self.held;
@@ -166,28 +166,16 @@ impl Monitor {
         let start = earliest(last, t);
         let here = clocks::wait_many(readings, start - last);
         let cs = lists::with_action(pending, held, c);
-        let mut ds = [0u32; Monitor::BATCH];
         let s: &[u8] = &self.bytes;
-        let live: &[u16] = &self.live;
-        let p = optimum::plan(
-            &s[..size],
-            live,
-            &cs[..held + 1],
-            location,
-            here,
-            start,
-            &mut ds,
-        );
-        if p.value < optimum::EXTENSIBLE {
-            let there = p.readings;
-            return self.place(t, cs, ds, start + p.value as u32, p.location, there);
-        }
-        if p.value == optimum::EXTENSIBLE {
-            return self.hold(c, t);
-        }
-        Answered {
-            monitor: self.at_date(t),
-            answer: Answer::Dropped,
+        let live: &[u8] = &self.live;
+        let o = reach::outlook_of(&s[..size], live, &cs[..held + 1], location, here);
+        match o {
+            Outlook::Correct => self.correct(t, cs, start, here),
+            Outlook::Extensible => self.hold(c, t),
+            Outlook::Dead => Answered {
+                monitor: self.at_date(t),
+                answer: Answer::Dropped,
+            },
         }
     }
 
@@ -218,7 +206,44 @@ impl Monitor {
         }
     }
 
-    // Case 1: the pending actions and one more get their dates, where they end in time and there is room.
+    // Case 1: there is a correction. Without room, and so far from the last date that it can't be passed, its dates need not be known.
+    fn correct(self, t: u32, cs: [u8; Monitor::BATCH], start: u32, here: [u8; 2]) -> Answered
+        requires { ⌜ CorrectAsked self t cs start here ⌝ }
+        ensures { λ r. ⌜ Done self (decidedOf self (lastAction self cs) t) r ⌝ }
+    {
+        if Monitor::SCHEDULED - self.planned < self.held + 1 {
+            if start <= Monitor::LATEST - Monitor::LONGEST {
+                return self.refuse(Reason::S3);
+            }
+        }
+        self.date_and_place(t, cs, start, here)
+    }
+
+    // Works out the first correction.
+    fn date_and_place(self, t: u32, cs: [u8; Monitor::BATCH], start: u32, here: [u8; 2]) -> Answered
+        requires { ⌜ CorrectAsked self t cs start here ⌝ }
+        ensures { λ r. ⌜ Done self (decidedOf self (lastAction self cs) t) r ⌝ }
+    {
+        let size = self.size;
+        let held = self.held;
+        let location = self.location;
+        let mut ds = [0u32; Monitor::BATCH];
+        let s: &[u8] = &self.bytes;
+        let live: &[u8] = &self.live;
+        let p = optimum::plan(
+            &s[..size],
+            live,
+            &cs[..held + 1],
+            location,
+            here,
+            start,
+            &mut ds,
+        );
+        let there = p.readings;
+        self.place(t, cs, ds, start + p.value as u32, p.location, there)
+    }
+
+    // The pending actions and one more get their dates, where they end in time and there is room.
     fn place(
         mut self,
         t: u32,
@@ -318,7 +343,7 @@ impl Monitor {
         let start = earliest(last, date);
         let here = clocks::wait_many(readings, start - last);
         let s: &[u8] = &self.bytes;
-        let live: &[u16] = &self.live;
+        let live: &[u8] = &self.live;
         let pending: &[u8] = &self.pending;
         if lamp::is_lit(&s[..size], live, &pending[..held], location, here) {
             return Answered {

@@ -37,11 +37,11 @@ pub struct Reached {
 }
 
 // The prospect where all is played.
-fn at_end(s: &[u8], live: &[u16], l: u8, r: [u8; 2]) -> u16
+fn at_end(s: &[u8], live: &[u8], l: u8, r: [u8; 2]) -> u16
     requires { ⌜ (Loads (now s)) × ((LiveTable (now s) (now live)) × (Standing (now s) l r)) ⌝ }
     ensures { λ v. ⌜ v ≡ encode (prospect (modelOf (now (s .entry))) [] (located l r)) ⌝ }
 {
-    if liveness::accepts(s, l) {
+    if liveness::accepts(s, bytes::wide(l)) {
         return 0;
     }
     if liveness::is_live(s, live, l, r) {
@@ -87,7 +87,7 @@ fn place(s: &[u8], k: usize, l: u8, r: [u8; 2]) -> usize
 }
 
 // The prospect of the actions from k on.
-fn best(s: &[u8], live: &[u16], cs: &[u8], k: usize, l: u8, r: [u8; 2], memo: &mut [u16]) -> u16
+fn best(s: &[u8], live: &[u8], cs: &[u8], k: usize, l: u8, r: [u8; 2], memo: &mut [u16]) -> u16
     requires { ⌜ Searching (now s) (now live) (now cs) k l r (now memo) ⌝ }
     ensures { λ v. ⌜ Found (now (s .entry)) (now (cs .entry)) (now (memo .exit)) (leftAt (now (s .entry)) (now (cs .entry)) k (located l r)) v ⌝ }
 {
@@ -108,7 +108,7 @@ fn best(s: &[u8], live: &[u16], cs: &[u8], k: usize, l: u8, r: [u8; 2], memo: &m
 }
 
 // The same of at least one action, by playing it now or later.
-fn fresh(s: &[u8], live: &[u16], cs: &[u8], k: usize, l: u8, r: [u8; 2], memo: &mut [u16]) -> u16
+fn fresh(s: &[u8], live: &[u8], cs: &[u8], k: usize, l: u8, r: [u8; 2], memo: &mut [u16]) -> u16
     requires { ⌜ (Searching (now s) (now live) (now cs) k l r (now memo)) × (k < length (now cs)) ⌝ }
     ensures { λ v. ⌜ Found (now (s .entry)) (now (cs .entry)) (now (memo .exit)) (leftAt (now (s .entry)) (now (cs .entry)) k (located l r)) v ⌝ }
 {
@@ -124,7 +124,7 @@ fn fresh(s: &[u8], live: &[u16], cs: &[u8], k: usize, l: u8, r: [u8; 2], memo: &
 }
 
 // The prospect where the action k is played now.
-fn play(s: &[u8], live: &[u16], cs: &[u8], k: usize, l: u8, r: [u8; 2], memo: &mut [u16]) -> u16
+fn play(s: &[u8], live: &[u8], cs: &[u8], k: usize, l: u8, r: [u8; 2], memo: &mut [u16]) -> u16
     requires { ⌜ (Searching (now s) (now live) (now cs) k l r (now memo)) × (k < length (now cs)) ⌝ }
     ensures { λ v. ⌜ Found (now (s .entry)) (now (cs .entry)) (now (memo .exit)) (playedNow (now (s .entry)) (now (cs .entry)) k (located l r)) v ⌝ }
 {
@@ -139,7 +139,7 @@ fn play(s: &[u8], live: &[u16], cs: &[u8], k: usize, l: u8, r: [u8; 2], memo: &m
 // Plays the action k as soon as that keeps the least ticks, which are v, and goes on with those after it.
 fn waiting(
     s: &[u8],
-    live: &[u16],
+    live: &[u8],
     cs: &[u8],
     k: usize,
     l: u8,
@@ -168,7 +168,7 @@ fn waiting(
 // Plays the action k at date t.
 fn playing(
     s: &[u8],
-    live: &[u16],
+    live: &[u8],
     cs: &[u8],
     k: usize,
     l: u8,
@@ -190,7 +190,7 @@ fn playing(
 // The plan, with a memo that knows nothing yet.
 fn solve(
     s: &[u8],
-    live: &[u16],
+    live: &[u8],
     cs: &[u8],
     l: u8,
     r: [u8; 2],
@@ -221,7 +221,7 @@ fn solve(
 // One action needs no memo.
 fn plan_one_action(
     s: &[u8],
-    live: &[u16],
+    live: &[u8],
     cs: &[u8],
     l: u8,
     r: [u8; 2],
@@ -238,7 +238,7 @@ fn plan_one_action(
 // One clock.
 fn plan_one_clock(
     s: &[u8],
-    live: &[u16],
+    live: &[u8],
     cs: &[u8],
     l: u8,
     r: [u8; 2],
@@ -255,7 +255,7 @@ fn plan_one_clock(
 // Two clocks. The memo is the only table above 32 KB, so it stands first.
 fn plan_two_clocks(
     s: &[u8],
-    live: &[u16],
+    live: &[u8],
     cs: &[u8],
     l: u8,
     r: [u8; 2],
@@ -272,7 +272,7 @@ fn plan_two_clocks(
 // The prospect of the actions and, where it is a number of ticks, their dates from t on; else out is left as it is.
 pub fn plan<'a>(
     s: &'a [u8],
-    live: &'a [u16],
+    live: &'a [u8],
     cs: &[u8],
     l: u8,
     r: [u8; 2],

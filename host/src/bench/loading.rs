@@ -8,6 +8,7 @@
 use super::heaviest::{late_correction, many_states};
 use super::script::with_length;
 use super::Input;
+use crate::desk::COLLECTION;
 use crate::generate::{draw, Bounds, Draft, Goal, Profile};
 use crate::random::Random;
 use crate::sheet::{RULE, UNBOUNDED};
@@ -25,6 +26,17 @@ pub fn longest(_calls: usize) -> Vec<Input> {
     vec![load(&long_way())]
 }
 
+/// One load of each of the largest sheets, and a collection: only then is the
+/// lamp asked for. The reference works nothing out before.
+pub fn largest_called(_calls: usize) -> Vec<Input> {
+    sheets().iter().map(|sheet| called(load(sheet))).collect()
+}
+
+/// The same of the sheet with a long way.
+pub fn longest_called(_calls: usize) -> Vec<Input> {
+    vec![called(load(&long_way()))]
+}
+
 /// What is not counted is a run without a sheet.
 fn load(sheet: &[u8]) -> Input {
     Input {
@@ -32,6 +44,12 @@ fn load(sheet: &[u8]) -> Input {
         whole: with_length(sheet),
         count: 1,
     }
+}
+
+/// A collection at date 0 after a load.
+fn called(mut input: Input) -> Input {
+    input.whole.extend([COLLECTION, 0, 0, 0, 0]);
+    input
 }
 
 /// Sheets of 518 bytes: random ones, and the heaviest.

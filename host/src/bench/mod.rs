@@ -113,5 +113,15 @@ pub const WORST: &[Kind] = &[
 /// The kinds whose times are per load.
 pub const LOADING: &[Kind] = &[
     kind("largest sheets", [5, ALL, 5, 210], loading::largest),
+    kind(
+        "largest sheets, first call",
+        [5, ALL, 5, 210],
+        loading::largest_called,
+    ),
     kind("long way, worst known", [1, ALL, 1, 150], loading::longest),
+    kind(
+        "long way, first call",
+        [1, ALL, 1, 150],
+        loading::longest_called,
+    ),
 ];

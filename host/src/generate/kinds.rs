@@ -24,6 +24,7 @@ pub const KINDS: &[Kind] = &[
     kind("two_clocks", two_clocks),
     kind("deadlines", deadlines),
     kind("long_pending", long_pending),
+    kind("long_two_clocks", long_two_clocks),
     kind("full_schedule", full_schedule),
     kind("full_sheet", full_sheet),
     kind("late", late),
@@ -162,8 +163,7 @@ fn deadlines(random: &mut Random) -> Vec<u8> {
 }
 
 /// An automaton with loops and chains and one late accepting location.
-fn far_goal(random: &mut Random) -> Draft {
-    let clocks = random.byte(1, 2);
+fn far_goal(random: &mut Random, clocks: u8) -> Draft {
     let profile = Profile {
         locations: random.pick(&[(2, 3), (2, 6), (8, 16)]),
         actions: (2, random.pick(&[3, 4, 8])),
@@ -197,7 +197,19 @@ fn one_exit(random: &mut Random, draft: &mut Draft) {
 
 /// The pending list grows, often until it is full, and then is scheduled.
 fn long_pending(random: &mut Random) -> Vec<u8> {
-    let draft = far_goal(random);
+    let clocks = random.byte(1, 2);
+    long_lists(random, clocks, 0)
+}
+
+/// The same with two clocks, and with offers at random before it is scheduled,
+/// some of which are dropped.
+fn long_two_clocks(random: &mut Random) -> Vec<u8> {
+    long_lists(random, 2, 6)
+}
+
+/// Long lists, with at most so many offers at random in between.
+fn long_lists(random: &mut Random, clocks: u8, between: u32) -> Vec<u8> {
+    let draft = far_goal(random, clocks);
     let mut script = Script::new(&draft.bytes());
     let general = plan(random).collecting(5).pacing(SLOW);
     let grow = general.steering(95, lengthens);
@@ -210,6 +222,10 @@ fn long_pending(random: &mut Random) -> Vec<u8> {
         }
         let more = random.between(0, 3);
         script.follow(random, grow.times(more));
+        if between > 0 {
+            let any = random.between(1, between);
+            script.follow(random, general.times(any));
+        }
         script.follow(random, general.steering(100, schedules).times(2));
         let rest = random.between(0, 20);
         script.follow(random, general.collecting(80).times(rest));

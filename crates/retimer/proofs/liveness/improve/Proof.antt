@@ -1,57 +1,45 @@
--- `liveness::improve` meets its contract. The same set says that the table is closed at the readings; another that the table is larger. Assumes nothing.
-use Rattle.retimer.proofs.LiveTable.{improve-same, improve-more}
+-- `liveness::improve` meets its contract. Assumes nothing.
+use Rattle.retimer.proofs.LiveTable.{accepting-done, close-gained, turns-none}
+use Rattle.enforcement.proofs.Loading.{header}
+use mathlib.Core.Path.{refl, sym, _∙_}
 use native.Mathlib.Omega.{arith}
 use borrow.Author.Needs.{needs}
 use Rattle.retimer.proofs.liveness.improve.Statement.{statement}
 use Rattle.retimer.proofs.liveness.improve.Tie as tie
 
-place-requires : tie.Need-place-requires
-place-requires c κs = search needs
-
-grown-requires : tie.Need-grown-requires
-grown-requires c κs = search needs
-
-mul-if1 : tie.Need-mul-if1
-mul-if1 c = search needs
-
-slice-read-if1 : tie.Need-slice-read-if1
-slice-read-if1 c = search needs
-
-same-length : tie.Need-same-length
-same-length c = search needs
+accepts-requires : tie.Need-accepts-requires
+accepts-requires c κs = (c .before .before .pre .0, omega (arith, header _ (c .before .before .pre .0) .locations-fit, c .before .before .pre .1 .1 .0))
 
 returns : tie.Need-returns
-returns c =
-    let d = c .before .before in
-    let p = d .before .before .before .before .before .pre in
-    improve-same _ (p .0) _ _ _ _ (p .1 .0) (d .grown .ensures) (d .before .before .place .ensures .0) (c .if1 .taken)
+returns c = accepting-done _ (c .before .before .before .before .pre .0) _ (c .before .before .before .before .pre .1 .1 .0) (c .before .before .before .before .pre .1 .0) (c .before .before .before .before .pre .1 .1 .1 .1 .0) (c .before .before .before .before .pre .1 .1 .1 .1 .1) (sym (c .before .accepts .ensures) ∙ c .if1 .taken)
 
-mul-sets : tie.Need-mul-sets
-mul-sets c = search needs
+turns-requires : tie.Need-turns-requires
+turns-requires c κs = search needs
 
-slice-write-sets : tie.Need-slice-write-sets
-slice-write-sets c = search needs
+close-requires : tie.Need-close-requires
+close-requires c κs = (c .before .before .before .before .turns .ensures .gained .sound .sized, omega (arith, header _ (c .before .before .before .before .before .before .before .before .before .before .pre .0) .locations-fit, c .before .before .before .before .before .before .before .before .before .before .pre .1 .1 .0))
 
-same-length-2 : tie.Need-same-length-2
-same-length-2 c = search needs
+same-length : tie.Need-same-length
+same-length c = c .before .before .close .ensures .sized ∙ c .before .before .before .before .before .before .before .turns .ensures .gained .sound .sized ∙ sym (c .before .before .before .before .before .before .before .before .before .before .before .before .before .pre .1 .0 .sized)
 
 returns-2 : tie.Need-returns-2
-returns-2 c =
-    let d = c .before .before in
-    let p = d .before .before .before .before .before .pre in
-    improve-more _ (p .0) _ _ _ _ (p .1 .0) (p .1 .1) (d .grown .ensures) (omega (arith, d .grown .ok)) (d .before .before .place .ensures .0) (c .if1 .left)
+returns-2 c = close-gained _ (c .before .before .before .before .before .before .before .before .before .before .before .before .before .pre .0) (c .before .before .before .before .if2 .taken) (c .before .before .before .before .before .before .before .turns .ensures) refl _ (c .before .before .before .before .before .before .before .before .before .before .before .before .before .pre .1 .1 .1 .0) (c .before .before .close .ensures)
+
+same-length-2 : tie.Need-same-length-2
+same-length-2 c = c .before .before .before .turns .ensures .gained .sound .sized ∙ sym (c .before .before .before .before .before .before .before .before .before .pre .1 .0 .sized)
+
+returns-3 : tie.Need-returns-3
+returns-3 c = turns-none _ (c .before .before .before .before .before .before .before .before .before .pre .0) (c .if2 .left) (c .before .before .before .turns .ensures) refl (c .before .before .before .before .before .before .before .before .before .pre .1 .1 .1 .1 .1)
 
 pub improve-spec : {M : Type 1} → statement M
 improve-spec =
     tie.close
     (tie.spec
-    place-requires
-    grown-requires
-    mul-if1
-    slice-read-if1
-    same-length
+    accepts-requires
     returns
-    mul-sets
-    slice-write-sets
+    turns-requires
+    close-requires
+    same-length
+    returns-2
     same-length-2
-    returns-2)
+    returns-3)

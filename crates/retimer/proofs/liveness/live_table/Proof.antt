@@ -1,43 +1,56 @@
--- `liveness::live_table` meets its contract. The invariant: the table is sound. The measure is by how much its sets can still grow. Assumes nothing.
-use Rattle.retimer.proofs.LiveTable.{empty-sound, sweeps-ended}
-use Rattle.retimer.specs.Live.{Sound, slack}
-use mathlib.Core.Path.{sym}
+-- `liveness::live_table` meets its contract. Assumes nothing.
+use mathlib.Core.Path.{refl}
+use lib.Dec.{eqb}
+use native.Mathlib.Omega.{arith}
+use Rattle.enforcement.specs.Automaton.{clocks}
+use Rattle.retimer.specs.Counts.{countsSize}
+use Rattle.enforcement.proofs.Loading.{size-fits}
+use Rattle.retimer.proofs.Arrays.{zero-at}
+use Rattle.retimer.proofs.LiveTable.{least-most, table-counted, table-closed}
+use borrow.Author.Needs.{needs}
 use Rattle.retimer.proofs.liveness.live_table.Statement.{statement}
 use Rattle.retimer.proofs.liveness.live_table.Tie as tie
 
-abbrev Inv-loop : tie.InvT-loop
-Inv-loop s sets₀ sets = Sound s sets
+live-set-requires : tie.Need-live-set-requires
+live-set-requires c κs = search needs
 
-abbrev μ-loop : tie.MeasureT-loop
-μ-loop s sets₀ sets = slack sets
+slice-aggregate-count : tie.Need-slice-aggregate-count
+slice-aggregate-count c = search needs
 
-loop-holds : tie.Need-loop-holds Inv-loop μ-loop
-loop-holds c = empty-sound _ (c .before .pre)
+slice-aggregate-count-2 : tie.Need-slice-aggregate-count-2
+slice-aggregate-count-2 c = search needs
 
-slice-aggregate-sweep : tie.Need-slice-aggregate-sweep Inv-loop μ-loop
-slice-aggregate-sweep c = sym (c .before .loop .inv .sized)
+shared-slice-read-wide : tie.Need-shared-slice-read-wide
+shared-slice-read-wide c = omega (arith, size-fits _ (c .before .before .before .before .before .before .pre))
 
-sweep-requires : tie.Need-sweep-requires Inv-loop μ-loop
-sweep-requires c κs = (c .before .before .before .pre, c .before .loop .inv)
+wide-requires : tie.Need-wide-requires
+wide-requires c κs = search needs
 
-loop-less : tie.Need-loop-less Inv-loop μ-loop
-loop-less c = c .before .before .sweep .ensures .larger (c .if1 .taken)
+shared-slice-read-least : tie.Need-shared-slice-read-least
+shared-slice-read-least c = omega (arith, size-fits _ (c .before .before .before .before .before .before .before .before .pre))
 
-loop-again : tie.Need-loop-again Inv-loop μ-loop
-loop-again c = c .before .before .sweep .ensures .sound
+least-requires : tie.Need-least-requires
+least-requires c κs = search needs
 
-returns : tie.Need-returns Inv-loop μ-loop
-returns c = sweeps-ended _ (c .before .before .before .before .before .before .pre) (c .before .before .sweep .ensures) (c .if1 .left)
+count-requires : tie.Need-count-requires
+count-requires c κs =
+    let live = c .before .before .before .before .before .before .before .live-set .ensures in
+    let n = c .before .before .wide .ensures .0 in
+    record { rows-sized = live .sized; sized = refl; in-range = omega (arith, n, live .fits); from-fits = omega (arith, c .least .ensures, least-most (eqb (clocks (c .before .before .before .before .before .before .before .before .before .args .s .now)) 1)); closed = table-closed _ _ live n (c .least .ensures); empty = zero-at countsSize }
+
+returns : tie.Need-returns
+returns c = table-counted _ _ _ (c .before .before .before .before .before .before .before .before .before .live-set .ensures) (c .before .before .before .before .wide .ensures .0) (c .before .before .least .ensures) (c .before .count .ensures)
 
 pub live-table-spec : {M : Type 1} → statement M
 live-table-spec =
     tie.close
     (tie.spec
-    Inv-loop
-    μ-loop
-    loop-holds
-    slice-aggregate-sweep
-    sweep-requires
-    loop-less
-    loop-again
+    live-set-requires
+    slice-aggregate-count
+    slice-aggregate-count-2
+    shared-slice-read-wide
+    wide-requires
+    shared-slice-read-least
+    least-requires
+    count-requires
     returns)

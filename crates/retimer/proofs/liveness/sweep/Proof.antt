@@ -1,7 +1,6 @@
--- `liveness::sweep` meets its contract. The invariant: the table is sound, and larger, or the same and closed at the valuations from n on. The measure is n. Assumes nothing.
-use Rattle.retimer.proofs.LiveTable.{DoneFrom, nth-valuation, sweep-begun, sweep-more, sweep-same, sweep-ended}
-use Rattle.retimer.specs.Live.{countOf, Progress}
-use Rattle.enforcement.proofs.Loading.{size-fits}
+-- `liveness::sweep` meets its contract. The invariant: the locations below l are done. The measure is what is left of them. Assumes nothing.
+use Rattle.retimer.proofs.LiveTable.{Sweeping, sweep-begun, sweep-more, sweep-none, sweep-ended}
+use Rattle.enforcement.proofs.Loading.{header, size-fits}
 use Prim.Native.Nat.{_-_, _≤_}
 use mathlib.Core.Path.{sym, _∙_}
 use native.Mathlib.Omega.{arith}
@@ -10,59 +9,46 @@ use Rattle.retimer.proofs.liveness.sweep.Statement.{statement}
 use Rattle.retimer.proofs.liveness.sweep.Tie as tie
 
 abbrev Inv-loop : tie.InvT-loop
-Inv-loop s sets₀ one n₀ changed₀ sets n changed = (n ≤ countOf one) × Progress s sets₀ sets changed (DoneFrom s sets₀ one n)
+Inv-loop s rows₀ set from locations next₀ l₀ rows next l = (l ≤ locations) × Sweeping s rows₀ rows set l next
 
 abbrev μ-loop : tie.MeasureT-loop
-μ-loop s sets₀ one n₀ changed₀ sets n changed = n
+μ-loop s rows₀ set from locations next₀ l₀ rows next l = locations - l
 
-shared-slice-read-one : tie.Need-shared-slice-read-one Inv-loop μ-loop
-shared-slice-read-one c = omega (arith, size-fits _ (c .before .before .before .pre .0))
+shared-slice-read-wide : tie.Need-shared-slice-read-wide Inv-loop μ-loop
+shared-slice-read-wide c = omega (arith, size-fits _ (c .before .before .before .pre .0))
 
-valuations-requires : tie.Need-valuations-requires Inv-loop μ-loop
-valuations-requires c κs = search needs
+wide-requires : tie.Need-wide-requires Inv-loop μ-loop
+wide-requires c κs = search needs
 
 loop-holds : tie.Need-loop-holds Inv-loop μ-loop
-loop-holds c =
-    let p = c .before .before .before .before .pre in
-    (omega (arith, c .valuations .ensures), sweep-begun _ (p .0) _ _ (c .valuations .ensures) (p .1))
+loop-holds c = (omega arith, sweep-begun _ (c .before .before .before .before .pre .0) (c .before .before .before .before .pre .1 .0))
 
-sub-n : tie.Need-sub-n Inv-loop μ-loop
-sub-n c = search needs
-
-valuation-requires : tie.Need-valuation-requires Inv-loop μ-loop
-valuation-requires c κs = omega (arith, c .before .before .loop .inv .0)
+add-l : tie.Need-add-l Inv-loop μ-loop
+add-l c = record { fits = omega (arith, c .loop-test .taken, c .before .before .wide .ensures .1) }
 
 improve-requires : tie.Need-improve-requires Inv-loop μ-loop
-improve-requires c κs =
-    let h = c .before .before .before in
-    let p = h .before .before .before .before .before .pre in
-    (p .0, (h .loop .inv .1 .sound, nth-valuation _ (h .loop .n - 1) _ (omega (arith, h .loop .inv .0)) (c .valuation .ensures)))
+improve-requires c κs = (c .before .before .before .before .before .before .before .pre .0, (c .before .before .loop .inv .1 .sound, (omega (arith, c .before .loop-test .taken, c .before .before .before .wide .ensures .0), (c .before .before .before .before .before .before .before .pre .1 .1, (c .before .before .loop .inv .1 .full, c .before .before .loop .inv .1 .ticked _ (omega (arith, c .before .loop-test .taken, c .before .before .before .wide .ensures .0)))))))
+
+with-requires : tie.Need-with-requires Inv-loop μ-loop
+with-requires c κs = omega (arith, header _ (c .before .before .before .before .before .before .before .before .before .before .before .pre .0) .locations-fit, c .before .before .before .before .before .loop-test .taken, c .before .before .before .before .before .before .before .wide .ensures .0)
 
 loop-less : tie.Need-loop-less Inv-loop μ-loop
-loop-less c = search needs
+loop-less c = omega (arith, c .before .before .before .before .before .before .loop-test .taken)
 
 loop-again : tie.Need-loop-again Inv-loop μ-loop
-loop-again c =
-    let d = c .before .before .before in
-    let h = d .before .before .before .before in
-    let p = h .before .before .before .before .before .pre in
-    (omega (arith, h .loop .inv .0), sweep-more _ (p .0) (h .loop .inv .1) (d .improve .ensures) (c .if1 .taken))
+loop-again c = (omega (arith, c .before .before .before .before .before .before .loop-test .taken), sweep-more _ (c .before .before .before .before .before .before .before .before .before .before .before .before .pre .0) (omega (arith, c .before .before .before .before .before .before .loop-test .taken, c .before .before .before .before .before .before .before .before .wide .ensures .0)) (c .before .before .before .before .before .before .before .loop .inv .1) (c .before .before .before .before .improve .ensures) _ (c .before .if1 .taken) (c .with .ensures))
 
 loop-less-2 : tie.Need-loop-less-2 Inv-loop μ-loop
-loop-less-2 c = search needs
+loop-less-2 c = omega (arith, c .before .before .before .before .before .loop-test .taken)
 
 loop-again-2 : tie.Need-loop-again-2 Inv-loop μ-loop
-loop-again-2 c =
-    let d = c .before .before .before in
-    let h = d .before .before .before .before in
-    let p = h .before .before .before .before .before .pre in
-    (omega (arith, h .loop .inv .0), sweep-same _ (p .0) (h .loop .n) (d .before .before .before .loop-test .taken) (d .before .valuation .ensures) (h .loop .inv .1) (d .improve .ensures) (c .if1 .left))
+loop-again-2 c = (omega (arith, c .before .before .before .before .before .loop-test .taken), sweep-none _ (c .before .before .before .before .before .before .before .before .before .before .before .pre .0) (omega (arith, c .before .before .before .before .before .loop-test .taken, c .before .before .before .before .before .before .before .wide .ensures .0)) (c .before .before .before .before .before .before .loop .inv .1) (c .before .before .before .improve .ensures) (c .if1 .left))
 
 same-length : tie.Need-same-length Inv-loop μ-loop
-same-length c = c .before .loop .inv .1 .sound .sized ∙ sym (c .before .before .before .before .before .before .pre .1 .sized)
+same-length c = c .before .loop .inv .1 .sound .sized ∙ sym (c .before .before .before .before .before .before .pre .1 .0 .sound .sized)
 
 returns : tie.Need-returns Inv-loop μ-loop
-returns c = sweep-ended _ (c .before .before .before .before .before .before .pre .0) (c .before .loop .n) (c .loop-test .left) (c .before .loop .inv .1)
+returns c = sweep-ended _ (c .before .before .before .before .before .before .pre .0) (c .before .loop .inv .1) (omega (arith, c .loop-test .left, c .before .before .wide .ensures .0))
 
 pub sweep-spec : {M : Type 1} → statement M
 sweep-spec =
@@ -70,12 +56,12 @@ sweep-spec =
     (tie.spec
     Inv-loop
     μ-loop
-    shared-slice-read-one
-    valuations-requires
+    shared-slice-read-wide
+    wide-requires
     loop-holds
-    sub-n
-    valuation-requires
+    add-l
     improve-requires
+    with-requires
     loop-less
     loop-again
     loop-less-2

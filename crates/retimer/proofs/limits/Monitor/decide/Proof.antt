@@ -1,33 +1,35 @@
 -- `Monitor::decide` meets its contract: what is worked out is what the model decides by, and each case is the model's.
 -- Assumes nothing.
-use mathlib.Core.Path.{refl, sym}
-use Prim.Native.Nat.{_+_}
+use mathlib.Core.Path.{ap, sym}
+use Prim.Native.Nat.{ℕ, _+_}
 use native.Mathlib.Omega.{arith}
+use lib.ListN.{take}
 use lib.Seq.{length-take-le}
-use borrow.Author.Needs.{needs}
+use Rattle.enforcement.specs.Model.{Prospect, prospect}
+use Rattle.retimer.specs.Readings.{located}
+use Rattle.retimer.specs.Optimum.{modelOf}
+use Rattle.retimer.specs.View.{bytesOf}
+use Rattle.retimer.specs.Calls.{decidedOf}
 use Rattle.retimer.proofs.Views.{done-same, dropped-done}
-use Rattle.retimer.proofs.Decisions.{Worked, plan-asked, place-asked, place-is, hold-is, drop-is}
+use Rattle.retimer.proofs.Outlooks.{correct-prospect, extensible-prospect, dead-prospect}
+use Rattle.retimer.proofs.Decisions.{Worked, lamp-asked, last-is, correct-asked, hold-is, drop-is}
+use borrow.Author.Needs.{needs}
 use Rattle.retimer.proofs.limits.Monitor.decide.Statement.{statement}
 use Rattle.retimer.proofs.limits.Monitor.decide.Tie as tie
 
--- What is known once the plan is made.
-worked : (x : tie.After-struct-known) →
-    let w = x .before .before .before .before .before .before .before .before .before .before .before in
+-- What is known before the outlook is asked for.
+worked : (w : tie.After-with-action) →
     let a = w .before .before .before .before .before in
-    Worked (a .args .t1) (a .args .c) (a .args .t) (w .before .before .earliest .result) (w .before .wait-many .result) (w .with-action .result) (x .before .before .plan .last .1 .1 .1 .1 .1 .1 .0) (x .before .before .plan .result)
-worked x =
-    let w = x .before .before .before .before .before .before .before .before .before .before .before in
+    Worked (a .args .t1) (a .args .c) (a .args .t) (w .before .before .earliest .result) (w .before .wait-many .result) (w .with-action .result)
+worked w =
     let a = w .before .before .before .before .before in
-    record {
-      sound = a .pre .0;
-      early = a .pre .1;
-      start-is = w .before .before .earliest .ensures;
-      here-is = w .before .wait-many .ensures .0;
-      sized = omega (arith, w .with-action .ok);
-      joined = w .with-action .ensures;
-      before = _;
-      planned = x .before .before .plan .ensures;
-    }
+    record { sound = a .pre .0; early = a .pre .1; start-is = w .before .before .earliest .ensures; here-is = w .before .wait-many .ensures .0; sized = omega (arith, w .with-action .ok); joined = w .with-action .ensures }
+
+-- The prospect that decides.
+abbrev sought : tie.After-with-action → Prospect
+sought w =
+    let a = w .before .before .before .before .before in
+    prospect (modelOf (bytesOf (a .args .t1))) (take (a .args .t1 .held + 1) (w .with-action .result)) (located (a .args .t1 .location) (w .before .wait-many .result))
 
 earliest-requires : tie.Need-earliest-requires
 earliest-requires c κs = search needs
@@ -41,8 +43,8 @@ wait-many-requires c κs = search needs
 with-action-requires : tie.Need-with-action-requires
 with-action-requires c κs = search needs
 
-slice-aggregate-plan : tie.Need-slice-aggregate-plan
-slice-aggregate-plan c =
+slice-aggregate-outlook-of : tie.Need-slice-aggregate-outlook-of
+slice-aggregate-outlook-of c =
     let a = c .before .before .before .before .before .before .before .before .before .before .before in
     sym (length-take-le (a .args .t1 .size) (a .args .t1 .bytes) (omega (arith, a .pre .0 .bytes-sized, a .pre .0 .size-fits)))
 
@@ -52,53 +54,54 @@ add-cs c = search needs
 array-share-prefix-cs : tie.Need-array-share-prefix-cs
 array-share-prefix-cs c = search needs
 
-slice-aggregate-plan-2 : tie.Need-slice-aggregate-plan-2
-slice-aggregate-plan-2 c =
+slice-aggregate-outlook-of-2 : tie.Need-slice-aggregate-outlook-of-2
+slice-aggregate-outlook-of-2 c =
     let w = c .before .before .before .before .before .before .before in
     let a = w .before .before .before .before .before in
     sym (length-take-le (a .args .t1 .held + 1) (w .with-action .result) (omega (arith, a .pre .0 .held-fits, w .with-action .ok)))
 
-slice-aggregate-plan-3 : tie.Need-slice-aggregate-plan-3
-slice-aggregate-plan-3 c = search needs
-
-plan-requires : tie.Need-plan-requires
-plan-requires c κs =
-    let w = c .before .before .before .before .before .before .before .before in
+outlook-of-requires : tie.Need-outlook-of-requires
+outlook-of-requires c κs =
+    let w = c .before .before .before .before .before .before .before in
     let a = w .before .before .before .before .before in
-    plan-asked (a .args .t1) (a .args .t) _ _ (w .with-action .result) _ (a .pre .0) (a .pre .1) (w .before .before .earliest .ensures) (w .before .wait-many .ensures .0) (omega (arith, w .with-action .ok)) refl
+    lamp-asked (a .args .t1) _ (w .before .wait-many .result) (a .pre .0) (w .before .wait-many .ensures .0) .0
 
-cast-place : tie.Need-cast-place
-cast-place c = search needs
+enum-told : tie.Need-enum-told
+enum-told c = search needs
 
-add-place : tie.Need-add-place
-add-place c = search needs
+correct-requires : tie.Need-correct-requires
+correct-requires c κs =
+    let w = c .before .before .before .before .before .before .before .before .before .before in
+    let p = correct-prospect (sought w) (c .enum-told .given .1) (c .before .before .outlook-of .ensures) in
+    correct-asked _ _ _ _ _ _ (worked w) (p .0) (p .1)
 
-place-requires : tie.Need-place-requires
-place-requires c κs =
-    let x = c .before .before .before in
-    place-asked _ _ _ _ _ _ _ _ (worked x) (omega (arith, c .before .before .if1 .taken))
-
-returns : tie.Need-returns
-returns c =
-    let x = c .before .before .before .before in
-    done-same _ _ _ (c .place .result) (c .place .ensures) (place-is _ _ _ _ _ _ _ _ (worked x) (omega (arith, c .before .before .before .if1 .taken)))
+enum-told-2 : tie.Need-enum-told-2
+enum-told-2 c = search needs
 
 hold-requires : tie.Need-hold-requires
 hold-requires c κs = search needs
 
-returns-2 : tie.Need-returns-2
-returns-2 c =
-    let x = c .before .before .before .before in
-    done-same _ _ _ (c .hold .result) (c .hold .ensures) (hold-is _ _ _ _ _ _ _ _ (worked x) (omega (arith, c .before .if2 .taken)))
+enum-told-3 : tie.Need-enum-told-3
+enum-told-3 c = search needs
 
 at-date-requires : tie.Need-at-date-requires
 at-date-requires c κs = search needs
 
+returns : tie.Need-returns
+returns c =
+    let w = c .before .before .before .before .before .before .before .before .before .before .before in
+    done-same _ _ _ (c .correct .result) (c .correct .ensures) (ap (λ (x : ℕ). decidedOf (w .before .before .before .before .before .args .t1) x (w .before .before .before .before .before .args .t)) (last-is _ _ _ _ _ _ (worked w)))
+
+returns-2 : tie.Need-returns-2
+returns-2 c =
+    let w = c .before .before .before .before .before .before .before .before .before .before .before in
+    done-same _ _ _ (c .hold .result) (c .hold .ensures) (hold-is _ _ _ _ _ _ (worked w) (extensible-prospect (sought w) (c .before .enum-told2 .given .1) (c .before .before .before .outlook-of .ensures)))
+
 returns-3 : tie.Need-returns-3
 returns-3 c =
-    let x = c .before .before .before .before in
-    let a = x .before .before .before .before .before .before .before .before .before .before .before .before .before .before .before .before in
-    dropped-done (a .args .t1) (a .args .t) (c .at-date .result) _ (c .at-date .ensures .0) (c .at-date .ensures .1 .0) (c .at-date .ensures .1 .1) (drop-is _ _ _ _ _ _ _ _ (worked x) (omega (arith, c .before .before .before .if1 .left)) (c .before .if2 .left))
+    let w = c .before .before .before .before .before .before .before .before .before .before .before in
+    let a = w .before .before .before .before .before in
+    dropped-done (a .args .t1) (a .args .t) (c .at-date .result) _ (c .at-date .ensures .0) (c .at-date .ensures .1 .0) (c .at-date .ensures .1 .1) (drop-is _ _ _ _ _ _ (worked w) (dead-prospect (sought w) (c .before .enum-told3 .given .1) (c .before .before .before .outlook-of .ensures)))
 
 pub decide-spec : {M : Type 1} → statement M
 decide-spec =
@@ -108,17 +111,17 @@ decide-spec =
     sub-wait-many
     wait-many-requires
     with-action-requires
-    slice-aggregate-plan
+    slice-aggregate-outlook-of
     add-cs
     array-share-prefix-cs
-    slice-aggregate-plan-2
-    slice-aggregate-plan-3
-    plan-requires
-    cast-place
-    add-place
-    place-requires
-    returns
+    slice-aggregate-outlook-of-2
+    outlook-of-requires
+    enum-told
+    correct-requires
+    enum-told-2
     hold-requires
-    returns-2
+    enum-told-3
     at-date-requires
+    returns
+    returns-2
     returns-3)

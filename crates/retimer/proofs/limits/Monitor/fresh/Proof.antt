@@ -24,7 +24,7 @@ shared-slice-read-t7 c = omega (arith, size-fits (c .before .before .before .bef
 returns : tie.Need-returns
 returns c =
     let a = c .before .before .before .before .before .before .before in
-    fresh-right (a .args .s .now) (c .before .before .before .copied .result) (c .before .before .before .before .before .live-table .result .sets) _ _ (c .before .if1 .second) (a .pre) (c .before .before .before .copied .ensures .0) (second-is (a .args .s .now) (c .before .if1 .second) (⊎-elim (λ w. inl (w .0 .taken, w .1)) (λ w. inr (w .0 .left, w .1)) (c .before .if1 .came))) (c .before .before .before .copied .ensures .1) (c .before .before .before .before .before .live-table .ensures) refl refl
+    fresh-right (a .args .s .now) (c .before .before .before .copied .result) (c .before .before .before .before .before .live-table .result .counts) _ _ (c .before .if1 .second) (a .pre) (c .before .before .before .copied .ensures .0) (second-is (a .args .s .now) (c .before .if1 .second) (⊎-elim (λ w. inl (w .0 .taken, w .1)) (λ w. inr (w .0 .left, w .1)) (c .before .if1 .came))) (c .before .before .before .copied .ensures .1) (c .before .before .before .before .before .live-table .ensures) refl refl
 
 pub fresh-spec : {M : Type 1} → statement M
 fresh-spec =

@@ -1,0 +1,64 @@
+// What a list of commands comes to.
+use crate::guarded;
+use crate::print;
+use retimer::liveness;
+use retimer::outlook::Outlook;
+use retimer::reach;
+
+fn print_outlook(o: Outlook) {
+    match o {
+        Outlook::Correct => print::word(b": correct\n"),
+        Outlook::Extensible => print::word(b": extensible\n"),
+        Outlook::Dead => print::word(b": dead\n"),
+    }
+}
+
+fn comes_to<'a>(s: &'a [u8], cs: &'a [u8], l: u8, x: u8, y: u8) {
+    if !guarded::stands(s, l, x, y) {
+        return;
+    }
+    let table = liveness::live_table(s);
+    let counts = table.counts;
+    print::word(b"outlook");
+    print::configuration(l, x, y);
+    print_outlook(reach::outlook_of(s, &counts, cs, l, [x, y]));
+}
+
+// After no command, and after one.
+pub fn short() {
+    let b = course::sheet_b();
+    comes_to(&b, b"", 2, 10, 31);
+    comes_to(&b, b"", 1, 15, 31);
+    comes_to(&b, b"", 1, 16, 31);
+    comes_to(&b, b"\x00", 0, 31, 31);
+    let b = course::sheet_b();
+    comes_to(&b, b"\x01", 0, 0, 31);
+    comes_to(&b, b"\x01", 1, 0, 31);
+    comes_to(&b, b"\x01", 1, 16, 31);
+}
+
+pub fn lists() {
+    let b = course::sheet_b();
+    comes_to(&b, b"\x00\x01", 0, 5, 31);
+    comes_to(&b, b"\x00\x00", 0, 5, 31);
+    let c = course::sheet_c();
+    comes_to(&c, b"\x00\x01", 0, 8, 31);
+    comes_to(&c, b"\x00\x01", 0, 9, 31);
+    let e = course::sheet_e();
+    comes_to(
+        &e,
+        b"\x00\x00\x00\x00\x00\x00\x00\x00\x00\x00\x00\x00\x00\x00\x00\x00\x01",
+        0,
+        0,
+        31,
+    );
+}
+
+pub fn two_clocks() {
+    let s = guarded::TWO_CLOCKS;
+    comes_to(&s, b"\x00", 0, 7, 7);
+    comes_to(&s, b"\x00", 0, 8, 8);
+    comes_to(&s, b"\x00\x01", 0, 7, 7);
+    comes_to(&s, b"\x00\x01", 0, 8, 8);
+    comes_to(&s, b"\x01", 1, 0, 7);
+}

@@ -1,0 +1,80 @@
+-- `rows::mark` meets its contract. The invariant: the rows from a up to i have gained theirs. The measure is what is left of the rows. Assumes nothing.
+use borrow.Author.Needs.{needs}
+use Prim.Native.Nat.{_≤_, _-_}
+use mathlib.Core.Path.{_≡_}
+use Rattle.retimer.specs.Sets.{Joined, Reset}
+use Rattle.retimer.proofs.sets.Joining.{joined-begun, joined-more, reset-in}
+use native.Mathlib.Omega.{arith}
+use Rattle.retimer.proofs.sets.rows.mark.Statement.{statement}
+use Rattle.retimer.proofs.sets.rows.mark.Tie as tie
+
+abbrev Inv-loop : tie.InvT-loop
+Inv-loop src cols a b out₀ i₀ out i = (a ≤ i) × ((i ≤ b) × Joined out₀ out (Reset src cols) a i)
+
+abbrev μ-loop : tie.MeasureT-loop
+μ-loop src cols a b out₀ i₀ out i = b - i
+
+loop-holds : tie.Need-loop-holds Inv-loop μ-loop
+loop-holds c = (omega arith, (c .before .before .pre .ordered, joined-begun _ _ _ (c .before .before .pre .narrow)))
+
+mul-out : tie.Need-mul-out Inv-loop μ-loop
+mul-out c = search needs
+
+slice-read-out : tie.Need-slice-read-out Inv-loop μ-loop
+slice-read-out c = search needs
+
+mul-flag : tie.Need-mul-flag Inv-loop μ-loop
+mul-flag c = search needs
+
+shared-slice-read-flag : tie.Need-shared-slice-read-flag Inv-loop μ-loop
+shared-slice-read-flag c = search needs
+
+flag-requires : tie.Need-flag-requires Inv-loop μ-loop
+flag-requires c κs = search needs
+
+mul-out-2 : tie.Need-mul-out-2 Inv-loop μ-loop
+mul-out-2 c = search needs
+
+slice-write-out : tie.Need-slice-write-out Inv-loop μ-loop
+slice-write-out c = search needs
+
+add-i : tie.Need-add-i Inv-loop μ-loop
+add-i c = search needs
+
+loop-less : tie.Need-loop-less Inv-loop μ-loop
+loop-less c = search needs
+
+loop-again : tie.Need-loop-again Inv-loop μ-loop
+loop-again c =
+    let h = c .before .before .before .before .loop .inv in
+    let p = c .before .before .before .before .before .before .before .pre in
+    let i = c .before .before .before .before .loop .i in
+    (omega arith, (omega arith, joined-more _ _ _ _ i _ (h .0) (omega (arith, p .target)) (h .1 .1) (c .flag .ensures .small) (reset-in (c .before .before .before .before .before .before .before .args .src .now) _ i _ (c .flag .ensures))))
+
+same-length : tie.Need-same-length Inv-loop μ-loop
+same-length c = search needs
+
+returns : tie.Need-returns Inv-loop μ-loop
+returns c =
+    let e : c .before .loop .i ≡ c .before .before .before .before .args .b = omega arith in
+    rw (← e) (c .before .loop .inv .1 .1)
+
+pub mark-spec : {M : Type 1} → statement M
+mark-spec =
+    tie.close
+    (tie.spec
+    Inv-loop
+    μ-loop
+    loop-holds
+    mul-out
+    slice-read-out
+    mul-flag
+    shared-slice-read-flag
+    flag-requires
+    mul-out-2
+    slice-write-out
+    add-i
+    loop-less
+    loop-again
+    same-length
+    returns)

@@ -1,0 +1,36 @@
+-- The next action, by the waits at which transitions are enabled.
+use mathlib.Core.Path.{_≡_}
+use mathlib.Core.Bool.{true}
+use mathlib.Core.List.{List}
+use Prim.Native.Nat.{ℕ, _+_, _≤_, _<_}
+use lib.ListN.{length, getD}
+use Rattle.enforcement.specs.Automaton.{Bytes, Transition, transitionAt}
+use Rattle.enforcement.specs.Loading.{Fits}
+use Rattle.enforcement.specs.TimedWord.{Configuration, fire}
+use Rattle.retimer.specs.Readings.{Valuation}
+use Rattle.retimer.specs.Live.{LiveTable}
+use Rattle.retimer.specs.Optimum.{modelOf}
+use Rattle.retimer.specs.Waits.{firstWait, endWait, along}
+
+-- A transition is for the action c, and enabled at some wait from the readings r on.
+abbrev pub Opens : ℕ → List ℕ → Transition → Type 0
+Opens c r t = (t .action ≡ c) × (firstWait t (getD r 0 0) (getD r 1 0) < endWait t (getD r 0 0) (getD r 1 0))
+
+-- At a wait at which it is enabled, a transition leads from the readings x and y to a configuration of which G holds.
+-- Where it leads does not depend on the location that is left: 0 stands for any.
+pub record Leads (G : Configuration → Type 0) (x y : ℕ) (t : Transition) : Type 0 where
+  pub wait : ℕ
+  pub opened : firstWait t x y ≤ wait
+  pub open-still : wait < endWait t x y
+  pub good : G (fire t (along x y 0 wait))
+
+-- It leads to a live configuration.
+abbrev pub LeadsLive : Bytes → List ℕ → Transition → Type 0
+LeadsLive s r t = Leads (λ (q : Configuration). modelOf s .live q ≡ true) (getD r 0 0) (getD r 1 0) t
+
+-- What is asked for the transition at p.
+pub record LeadsAsked (s : Bytes) (live : List ℕ) (p : ℕ) (r : List ℕ) : Type 0 where
+  pub table : LiveTable s live
+  pub inside : p + 7 ≤ length s
+  pub fits : Fits s (transitionAt s p)
+  pub valuation : Valuation s r
