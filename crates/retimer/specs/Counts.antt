@@ -10,7 +10,7 @@ use Rattle.enforcement.specs.Model.{top, width}
 use Rattle.retimer.specs.Row.{In}
 use Rattle.retimer.specs.Leading.{allRows, member}
 
--- The diagonals of a location: those of (0, y), of which the last has every saturated y, then those of (x, 0).
+-- The diagonals of a location: the first has every saturated y; the others are those of equal difference x - y.
 abbrev pub diagonals : ℕ
 diagonals = 2 * width
 
@@ -19,7 +19,7 @@ countsSize = maxCount * diagonals
 
 -- The diagonal that two readings lie on, and their position on it.
 unfoldable pub diagonal : ℕ → ℕ → ℕ
-diagonal x y = cond (eqb y top) top (cond (ltb y x) (width + (x - y)) (y - x))
+diagonal x y = cond (eqb y top) 0 (x + (top - y))
 
 unfoldable pub position : ℕ → ℕ → ℕ
 position x y = cond (eqb y top) x (min x y)

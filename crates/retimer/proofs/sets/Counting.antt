@@ -252,7 +252,7 @@ module _ (rows : List ℕ) (l from : ℕ) (closed : Closed rows from l) (h : fro
 
 module _ {rows counts new : List ℕ} {l from y next v : ℕ} (a : LocationAsked rows counts l from) (f : Counting rows counts new l y next) (h : y ≤ from) (g : Highest (getD rows (l * width + top) 0) v) where
   abbrev i : ℕ
-  i = l * diagonals + top
+  i = l * diagonals
 
   pub location-counted : LocationCounted rows counts (set new i v) l from
   location-counted = record {
@@ -264,7 +264,8 @@ module _ {rows counts new : List ℕ} {l from y next v : ℕ} (a : LocationAsked
       go : (x z : ℕ) → x ≤ top → from ≤ z → z ≤ top → (b : Bool) → eqb z top ≡ b → counted (set new i v) l x z ≡ member rows l x z
       go x z p q o true e =
           let d = eqb-true z top e in
-          rw d (ap₂ (λ (m n : ℕ). ltb m (getD (set new i v) (l * diagonals + n) 0)) (sym (position-top x top refl)) (sym (diagonal-top x top refl)) ∙ ap (ltb x) (getD-set-same new i v 0 (omega (arith, f .sized, a .in-range))) ∙ saturated rows l from (a .closed) (a .from-fits) v x g p)
+          let k : l * diagonals + 0 ≡ i = omega arith in
+          rw d (ap₂ (λ (m n : ℕ). ltb m (getD (set new i v) (l * diagonals + n) 0)) (sym (position-top x top refl)) (sym (diagonal-top x top refl)) ∙ ap (λ (n : ℕ). ltb x (getD (set new i v) n 0)) k ∙ ap (ltb x) (getD-set-same new i v 0 (omega (arith, f .sized, a .in-range))) ∙ saturated rows l from (a .closed) (a .from-fits) v x g p)
       go x z p q o false e =
           let ne = eqb-false z top e in
           ap (ltb (position x z)) (getD-set-other new i (place l x z) v 0 (λ d. diagonal-other x z (omega arith) (omega arith))) ∙ f .done x z p (omega arith) (omega arith)

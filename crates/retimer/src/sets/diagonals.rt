@@ -15,12 +15,9 @@ fn diagonal(x: u8, y: u8) -> usize
     ensures { λ v. ⌜ v ≡ diagonal x y ⌝ }
 {
     if y == Monitor::TOP {
-        return Monitor::TOP as usize;
+        return 0;
     }
-    if y < x {
-        return Monitor::WIDTH + bytes::wide(x - y);
-    }
-    bytes::wide(y - x)
+    bytes::wide(x + (Monitor::TOP - y))
 }
 
 // Their position on it.
@@ -76,9 +73,7 @@ fn count_location(rows: &[u64], counts: &mut [u8], l: usize, from: usize)
         count_row(counts, l, y, row::ends(row, next));
         next = row;
     }
-    counts[l * Monitor::DIAGONALS + Monitor::TOP as usize] = row::highest(
-        rows[base + Monitor::TOP as usize],
-    );
+    counts[l * Monitor::DIAGONALS] = row::highest(rows[base + Monitor::TOP as usize]);
 }
 
 // Counts the configurations of the first locations. Second readings below `from` are left out.

@@ -62,12 +62,6 @@ highest-requires c κs = search needs
 mul-counts : tie.Need-mul-counts Inv-loop μ-loop
 mul-counts c = search needs
 
-cast-counts : tie.Need-cast-counts Inv-loop μ-loop
-cast-counts c = search needs
-
-add-counts : tie.Need-add-counts Inv-loop μ-loop
-add-counts c = search needs
-
 slice-write-counts : tie.Need-slice-write-counts Inv-loop μ-loop
 slice-write-counts c = search needs
 
@@ -100,8 +94,6 @@ count-location-spec =
     shared-slice-read-highest
     highest-requires
     mul-counts
-    cast-counts
-    add-counts
     slice-write-counts
     same-length
     returns)
