@@ -4,7 +4,7 @@ mod common;
 
 use common::fresh;
 use host::bench::{heaviest, loading, Counter, Figures, Folder, Input, Kind};
-use host::bench::{Measured, Programs, Stop, KINDS, LOADING, WORST};
+use host::bench::{typical, Measured, Programs, Stop, KINDS, LOADING, WORST};
 use host::desk::{self, CALL, COLLECTION};
 use host::monitor::{Answer, Monitor};
 use host::runs::{Configuration, Reached};
@@ -246,7 +246,9 @@ fn worst_offers() {
 fn loading_takes_the_largest_sheets() {
     let largest = loading::sheets();
     let longest = vec![loading::long_way()];
-    let sheets = [&largest, &largest, &longest, &longest].into_iter().flatten();
+    let sheets = [&largest, &largest, &longest, &longest]
+        .into_iter()
+        .flatten();
     let sheets: Vec<_> = sheets.collect();
     sheets.iter().for_each(|bytes| check_largest(bytes));
     let inputs = LOADING.iter().flat_map(|kind| kind.inputs(kind.calls));
@@ -324,9 +326,11 @@ fn equal_outputs_are_measured() {
 }
 
 #[test]
-fn each_program_comes_first_in_a_third_of_the_rounds() {
-    let mut kinds = KINDS.iter().chain(WORST).chain(LOADING);
-    assert!(kinds.all(|kind| kind.rounds.is_multiple_of(3)));
+fn typical_times_leave_out_the_slow_and_the_luckiest() {
+    let times = (0..20).rev().map(f64::from).collect();
+    assert_eq!(typical(times), 5.5);
+    assert_eq!(typical(vec![9.0, 1.0, 2.0]), 1.5);
+    assert_eq!(typical(vec![3.0]), 3.0);
 }
 
 #[test]

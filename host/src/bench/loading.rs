@@ -1,9 +1,9 @@
 //! The largest sheets, without calls.
 //!
 //! A run loads one sheet, so that a load is the difference between a run with
-//! a sheet and one without. Even the best of many runs without a sheet varies
-//! by more than a fast load takes. So the instructions are counted too, where
-//! the machine has the tool, and times below that noise are not given.
+//! a sheet and one without. A fast load takes some hundredth of a run, so many
+//! runs are timed, and the instructions are counted too, where the machine has
+//! the tool.
 
 use super::heaviest::{late_correction, many_states};
 use super::script::with_length;

@@ -1,6 +1,7 @@
-//! Runs three programs on the same inputs by turns and keeps the best times.
+//! Runs three programs on the same inputs by turns and tells what they take.
 
 use super::Input;
+use crate::random::Random;
 use std::fs::{self, File};
 use std::io::{self, ErrorKind};
 use std::path::{Path, PathBuf};
@@ -124,12 +125,12 @@ impl Programs {
         let (mut count, mut part) = (0, 0);
         let (mut counted, mut base) = (Figures::default(), Figures::default());
         for input in inputs {
-            let (best_whole, best_base) = self.best(folder, input, rounds, few)?;
+            let [of_whole, of_base] = self.times(folder, input, rounds, few)?;
             count += input.count;
             part += input.count.min(few);
-            counted = counted.with(best_whole, |sum, whole| sum + whole);
-            counted = counted.with(best_base, |sum, base| sum - base);
-            base = base.with(best_base, |sum, base| sum + base);
+            counted = counted.with(of_whole, |sum, whole| sum + whole);
+            counted = counted.with(of_base, |sum, base| sum - base);
+            base = base.with(of_base, |sum, base| sum + base);
         }
         let counts = Figures {
             program: count as f64,
@@ -143,62 +144,60 @@ impl Programs {
         })
     }
 
-    /// The best times for an input and for its base.
-    fn best(
+    /// What an input and its base take. In each round all programs are run on
+    /// both, in a new order, as what ran before has an effect.
+    fn times(
         &self,
         folder: &Folder,
         input: &Input,
         rounds: usize,
         few: usize,
-    ) -> Result<(Figures, Figures), Stop> {
+    ) -> Result<[Figures; 2], Stop> {
         let base = folder.write("base", &input.base)?;
         let whole = folder.write("whole", &input.whole)?;
         let part = match input.part(few) {
             part if part.len() < input.whole.len() => folder.write("part", part)?,
             _ => whole.clone(),
         };
-        let never = Figures::all(f64::INFINITY);
-        let (mut best_whole, mut best_base) = (never, never);
-        for round in 0..rounds {
-            let times = self.run_all(folder, &whole, &part, round)?;
-            best_whole = best_whole.with(times, f64::min);
-            let times = self.run_all(folder, &base, &base, round)?;
-            best_base = best_base.with(times, f64::min);
+        let inputs = [[&*whole, &*part, &*whole], [&*base; 3]];
+        let mut random = Random::new(rounds as u64);
+        let mut order = [0, 1, 2, 3, 4, 5];
+        let mut times: [Vec<f64>; 6] = Default::default();
+        for _ in 0..rounds {
+            random.shuffle(&mut order);
+            let runs = self.run_all(folder, &inputs, order)?;
+            for (times, run) in times.iter_mut().zip(runs.as_flattened()) {
+                times.push(run.time.as_secs_f64());
+            }
+            for (runs, inputs) in runs.into_iter().zip(&inputs) {
+                self.compare(runs, inputs)?;
+            }
         }
-        Ok((best_whole, best_base))
+        let [a, b, c, d, e, f] = times.map(typical);
+        Ok([Figures::new(a, b, c), Figures::new(d, e, f)])
     }
 
-    /// Runs the programs on an input, the reference on a part of it. Each comes
-    /// first in one of three rounds, as what ran before has an effect.
-    fn run_three(
-        &self,
-        folder: &Folder,
-        input: &Path,
-        part: &Path,
-        round: usize,
-    ) -> Result<[Run; 3], Stop> {
-        let first = round % 3;
-        let mut tasks = [
-            (&self.program, input),
-            (&self.reference, part),
-            (&self.fast, input),
-        ];
-        tasks.rotate_left(first);
-        let run = |(program, input): (&PathBuf, &Path)| run(program, input, folder);
-        let mut runs = [run(tasks[0])?, run(tasks[1])?, run(tasks[2])?];
-        runs.rotate_right(first);
-        Ok(runs)
-    }
-
-    /// Runs the programs and compares what they print.
+    /// Runs the program, the reference and the fast one, each on its two inputs.
     fn run_all(
         &self,
         folder: &Folder,
-        input: &Path,
-        part: &Path,
-        round: usize,
-    ) -> Result<Figures, Stop> {
-        let [program, mut reference, fast] = self.run_three(folder, input, part, round)?;
+        inputs: &[[&Path; 3]; 2],
+        order: [usize; 6],
+    ) -> Result<[[Run; 3]; 2], Stop> {
+        let programs = [&self.program, &self.reference, &self.fast];
+        let mut runs = [const { [const { None }; 3] }; 2];
+        for task in order {
+            let (input, program) = (task / 3, task % 3);
+            runs[input][program] = Some(run(programs[program], inputs[input][program], folder)?);
+        }
+        Ok(runs.map(|runs| runs.map(|run| run.expect("every task was run"))))
+    }
+
+    /// Compares what the programs have printed, the reference for a part of the
+    /// others' input.
+    fn compare(&self, runs: [Run; 3], inputs: &[&Path; 3]) -> Result<(), Stop> {
+        let [program, mut reference, fast] = runs;
+        let [input, part, _] = inputs;
         if input != part {
             // Beyond its part there is nothing to compare with.
             let more = fast.output.get(reference.output.len()..);
@@ -213,21 +212,24 @@ impl Programs {
                 return Err(Stop::Difference(Box::new(difference)));
             }
         }
-        Ok(Figures {
-            program: program.time.as_secs_f64(),
-            reference: reference.time.as_secs_f64(),
-            fast: fast.time.as_secs_f64(),
-        })
+        Ok(())
     }
 }
 
+/// The mean of the faster half of some times without the fastest tenth: what
+/// else the machine does makes runs slower, and a lucky one says little.
+pub fn typical(mut times: Vec<f64>) -> f64 {
+    times.sort_by(f64::total_cmp);
+    let typical = &times[times.len() / 10..times.len().div_ceil(2)];
+    typical.iter().sum::<f64>() / typical.len() as f64
+}
+
 impl Figures {
-    /// The same figure for all.
-    fn all(figure: f64) -> Self {
+    fn new(program: f64, reference: f64, fast: f64) -> Self {
         Figures {
-            program: figure,
-            reference: figure,
-            fast: figure,
+            program,
+            reference,
+            fast,
         }
     }
 

@@ -12,7 +12,7 @@ mod report;
 mod script;
 
 pub use instructions::Counter;
-pub use measure::{Difference, Figures, Folder, Measured, Programs, Stop};
+pub use measure::{typical, Difference, Figures, Folder, Measured, Programs, Stop};
 pub use report::report;
 
 use crate::desk::CALL;
@@ -52,8 +52,7 @@ pub struct Kind {
     pub few: usize,
     /// Calls whose instructions are counted, over all inputs.
     pub short: usize,
-    /// How often each program is timed: a multiple of three, as each comes first
-    /// in a third of the rounds.
+    /// How often each program is timed.
     pub rounds: usize,
     make: fn(usize) -> Vec<Input>,
 }
@@ -112,16 +111,16 @@ pub const WORST: &[Kind] = &[
 
 /// The kinds whose times are per load.
 pub const LOADING: &[Kind] = &[
-    kind("largest sheets", [5, ALL, 5, 210], loading::largest),
+    kind("largest sheets", [5, ALL, 5, 600], loading::largest),
     kind(
         "largest sheets, first call",
-        [5, ALL, 5, 210],
+        [5, ALL, 5, 600],
         loading::largest_called,
     ),
-    kind("long way, worst known", [1, ALL, 1, 150], loading::longest),
+    kind("long way, worst known", [1, ALL, 1, 600], loading::longest),
     kind(
         "long way, first call",
-        [1, ALL, 1, 150],
+        [1, ALL, 1, 600],
         loading::longest_called,
     ),
 ];

@@ -54,7 +54,7 @@ const LOADS: Group = Group {
     title: "loading",
     per: "load",
     unit: MICROSECONDS,
-    noise: 30e-6,
+    noise: 2e-6,
     kinds: LOADING,
 };
 

@@ -82,6 +82,22 @@ fn close<const HEIGHT: usize>(rows: &mut [Row; HEIGHT]) {
     }
 }
 
+/// Whether a location has every configuration. Each waits until both readings
+/// are the cap, so that one is enough.
+#[inline]
+fn is_whole<const HEIGHT: usize>(rows: &[Row; HEIGHT]) -> bool {
+    rows[HEIGHT - 1] & CAP_BIT != 0
+}
+
+/// Whether a rule leads to live ones when both readings are the cap.
+#[inline]
+fn leads_from_cap<const HEIGHT: usize>(rows: &Rows<HEIGHT>, rule: &Rule) -> bool {
+    let (_, end) = rule.rows::<HEIGHT>();
+    let target = &rows[usize::from(rule.target)];
+    let row = rule.columns() & leading(target, rule.resets, HEIGHT - 1);
+    end == HEIGHT && row & CAP_BIT != 0
+}
+
 /// Goes through the rules of a location that lead to a changed one.
 fn improve<const HEIGHT: usize>(
     sheet: &Sheet,
@@ -89,24 +105,32 @@ fn improve<const HEIGHT: usize>(
     location: u8,
     changed: u16,
 ) -> bool {
+    let index = usize::from(location);
+    let leads_on = |rule: &&Rule| in_set(changed, rule.target);
+    if is_whole(&rows[index]) {
+        return false;
+    }
+    let mut rules = sheet.rules(location).iter().filter(leads_on);
+    if rules.any(|rule| leads_from_cap(rows, rule)) {
+        rows[index] = [FULL; HEIGHT];
+        return true;
+    }
     let mut any = false;
-    for rule in sheet.rules(location) {
-        if in_set(changed, rule.target) {
-            any |= add_rule(rows, location, rule);
-        }
+    for rule in sheet.rules(location).iter().filter(leads_on) {
+        any |= add_rule(rows, location, rule);
     }
     if any {
-        close(&mut rows[usize::from(location)]);
+        close(&mut rows[index]);
     }
     any
 }
 
-/// One sweep over the locations: which have changed.
+/// One sweep over the locations, the last one first: which have changed. What
+/// changes counts for those after it.
 fn sweep<const HEIGHT: usize>(sheet: &Sheet, rows: &mut Rows<HEIGHT>, changed: u16) -> u16 {
     let mut next = 0;
-    for location in 0..sheet.locations {
-        let full = in_set(sheet.accepting, location);
-        if !full && improve(sheet, rows, location, changed) {
+    for location in (0..sheet.locations).rev() {
+        if improve(sheet, rows, location, changed | next) {
             next |= 1 << location;
         }
     }
@@ -132,6 +156,12 @@ impl Diagonals {
         second: [0; READINGS],
     };
 
+    /// Of a location that has every configuration.
+    const ALL: Diagonals = Diagonals {
+        first: [CAP + 1; READINGS],
+        second: [CAP + 1; READINGS],
+    };
+
     /// The deadlines of a location with one clock: only that from (0, cap).
     fn of_one_clock(row: Row) -> Self {
         let mut diagonals = Diagonals::NONE;
@@ -141,6 +171,9 @@ impl Diagonals {
 
     /// The deadlines of a location with two clocks.
     fn of_two_clocks(rows: &[Row; READINGS]) -> Self {
+        if is_whole(rows) {
+            return Diagonals::ALL;
+        }
         let mut diagonals = Diagonals::NONE;
         for (start, row) in rows.iter().enumerate() {
             diagonals.first[start] = (row & 1) as u8 * (CAP + 1);
