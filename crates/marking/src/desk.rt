@@ -42,8 +42,11 @@ fn mark_calls(start: Monitor)
     let mut n: u64 = 0;
     while n < LAST {
         let mut calls = [0u8; block::BYTES];
-        let mut out = [0u8; block::LINES];
         let size = io::read_full(STDIN_FILENO, &mut calls);
+        if size == 0 {
+            return;
+        }
+        let mut out = [0u8; block::LINES];
         let marked = block::mark(b, &calls[..size], n, &mut out);
         let end = marked.size;
         if !io::write_all(STDOUT_FILENO, &out[..end]) {

@@ -5,11 +5,11 @@ use mathlib.Core.Bool.{Bool, true, false, cond, _||_, _&&_, false≢true, true�
 use mathlib.Core.List.{List, [], _∷_}
 use mathlib.Core.Logic.{_⊎_, inl, inr, ⊎-elim}
 use mathlib.Core.Option.{some}
-use Prim.Native.Nat.{ℕ, zero, suc, _+_, _*_, _-_, _≤_, _<_, min}
+use Prim.Native.Nat.{ℕ, zero, suc, _+_, _*_, _-_, _^_, _≤_, _<_, min}
 use native.Mathlib.Omega.{arith}
 use lib.Dec.{eqb}
 use lib.ListN.{length, getD, set, replicate, length-replicate}
-use borrow.Author.Tests.{eqb-true, eqb-false}
+use borrow.Author.Tests.{eq-eqb, eqb-true, eqb-false}
 use Rattle.enforcement.specs.Limits.{maxCount}
 use Rattle.enforcement.specs.Automaton.{Bytes, Transition, automaton, byte, bit, accepting, actions, clocks, locations, offset, size, word, transitionAt, transitions, enabled}
 use Rattle.enforcement.specs.TimedWord.{Configuration, fire, fireFirst, step}
@@ -23,12 +23,13 @@ use Rattle.enforcement.proofs.Overlaps.{only-fires}
 use Rattle.retimer.specs.Readings.{Standing, located}
 use Rattle.retimer.specs.Locations.{Added}
 use Rattle.retimer.proofs.Arrays.{zero-at}
-use Rattle.retimer.specs.Leading.{allRows, member, slack, keptFirst, keptSecond, leads, Others, TransitionAdded, WaitsAdded, Filled}
+use Rattle.retimer.specs.Leading.{allRows, member, slack, keptFirst, keptSecond, leads, Others, TransitionAdded, WaitsAdded, LocationFilled, Filled}
 use Rattle.retimer.specs.Counts.{Closed, Counted}
-use Rattle.retimer.specs.Live.{LiveTable, LiveSet, least, leastOf, Stands, alive, Sound, Place, Included, Ticked, Gained, Settled, Turn, Turns, Improved, Full, Unsettled, Swept}
+use Rattle.retimer.specs.Live.{LiveTable, LiveSet, least, leastOf, Stands, alive, Sound, Place, Included, Ticked, Gained, Settled, Turn, Turns, FromSaturated, Improved, Full, Unsettled, Swept}
 use Rattle.enforcement.proofs.Bits.{bit-none, or-cases, or-shown, and-cases}
 use Rattle.retimer.proofs.sets.Tables.{same-or}
-use Rattle.retimer.proofs.sets.Closing.{waits-none, waits-later}
+use Rattle.retimer.proofs.sets.Filling.{short}
+use Rattle.retimer.proofs.sets.Closing.{waits-none, waits-later, closed-whole}
 use Rattle.retimer.proofs.Valuations.{cond-most}
 use Rattle.retimer.proofs.Places.{Every, place-split, place-fits, places-every}
 
@@ -37,7 +38,7 @@ true-and e f = rw (e, f)
 
 -- ---- Where a configuration stands
 
-abbrev pub at : ℕ → ℕ → ℕ → Configuration
+abbrev at : ℕ → ℕ → ℕ → Configuration
 at l x y = record { location = l; x = x; y = y }
 
 tick-stands : {s : Bytes} {l x y : ℕ} → Stands s l x y → Stands s l (min (x + 1) top) (min (y + 1) top)
@@ -59,7 +60,7 @@ fire-stands {s} {u} f {l} {x} {y} h = record {
     go true e g = rw (f .one-clock (eqb-true (clocks s) 1 e) .kept) g
     go false e g = omega arith
 
-pub standing-stands : {s : Bytes} {l : ℕ} {r : List ℕ} → Standing s l r → Stands s l (getD r 0 0) (getD r 1 0)
+standing-stands : {s : Bytes} {l : ℕ} {r : List ℕ} → Standing s l r → Stands s l (getD r 0 0) (getD r 1 0)
 standing-stands {s} {l} {r} h = record { in-sheet = h .in-sheet; first = h .readings .first; second = h .readings .second; used = go (eqb (clocks s) 1) refl }
   where
     go : (one : Bool) → eqb (clocks s) 1 ≡ one → leastOf one ≤ getD r 1 0
@@ -124,19 +125,41 @@ settled-more : {s : Bytes} {u w : List ℕ} {l : ℕ} {a b : Bool} (q : ℕ) →
 settled-more {s} {u} {w} {l} q g (inl z) = inl (refl, z .1)
 settled-more {s} {u} {w} {l} q g (inr z) = same-or (byte s (q + 1)) l (λ e. inl (refl, e)) (λ ne. inr (ruled-on g l (transitionAt s q) ne z))
 
--- The locations below l are done.
+-- The place before the next.
+place-before : {s : Bytes} {l p : ℕ} (q : ℕ) → Place s l p → Place s l q → q < p + 7 → (q < p) ⊎ (q ≡ p)
+place-before {s} {l} {p} q h r k = same-or q p inr (λ ne. inl (omega (arith, h .after, h .whole, r .after, r .whole)))
+
+-- ---- From saturated readings
+
+module _ {s : Bytes} {t : List ℕ} {l set p : ℕ} where
+  pub none-begun : p ≤ offset s l → FromSaturated s t l set p false
+  none-begun h = record { found = λ e. absurd (false≢true e); none = λ _ q r k. absurd (omega (arith, r .after)) }
+
+  pub none-more : Place s l p → FromSaturated s t l set p false → (bit set (byte s (p + 1)) && leads t (transitionAt s p) top top) ≡ false → FromSaturated s t l set (p + 7) false
+  none-more r f e = record { found = λ d. absurd (false≢true d); none = λ _ q h k d. ⊎-elim (λ z. f .none refl q h z d) (λ z. subst⁻¹ (λ (i : ℕ). leads t (transitionAt s i) top top ≡ false) z (out (subst (λ (i : ℕ). bit set (byte s (i + 1)) ≡ true) z d))) (place-before q r h k) }
+    where
+      out : bit set (byte s (p + 1)) ≡ true → leads t (transitionAt s p) top top ≡ false
+      out d = rw d at e
+
+  pub some-found : {n : ℕ} → Place s l p → (bit set (byte s (p + 1)) && leads t (transitionAt s p) top top) ≡ true → FromSaturated s t l set n true
+  some-found r e = record { found = λ _. let z = and-cases (bit set (byte s (p + 1))) _ e in (p, r, z .0, z .1); none = λ d. absurd (true≢false d) }
+
+  pub none-ended : {n : ℕ} → FromSaturated s t l set p false → n ≤ p → FromSaturated s t l set n false
+  none-ended f h = record { found = f .found; none = λ e q r k d. f .none e q r (omega arith) d }
+
+-- The locations from l on are done.
 pub record Sweeping (s : Bytes) (t u : List ℕ) (set l next : ℕ) : Type 0 where
   pub sound : Sound s u
   pub full : Full s u
   pub ticked : (k : ℕ) → k < locations s → Ticked s u k
-  pub included : (k q : ℕ) → k < locations s → Place s k q → (k < l) ⊎ (bit set (byte s (q + 1)) ≡ false) → bit next (byte s (q + 1)) ≡ false → Included s u k (transitionAt s q)
+  pub included : (k q : ℕ) → k < locations s → Place s k q → (l ≤ k) ⊎ (bit set (byte s (q + 1)) ≡ false) → bit next (byte s (q + 1)) ≡ false → Included s u k (transitionAt s q)
   pub grows : slack u ≤ slack t
   pub larger : (next ≡ 0 → ⊥) → slack u < slack t
 
 -- ---- What is live
 
 module _ (s : Bytes) (loads : Loads s) where
-  abbrev pub Lives : ℕ → ℕ → ℕ → Type 0
+  abbrev Lives : ℕ → ℕ → ℕ → Type 0
   Lives l x y = Live (step (automaton s)) (accepting s) (actions s) (at l x y)
 
   pub alive-lives : (l x y : ℕ) → Stands s l x y → alive s l x y ≡ true → Lives l x y
@@ -159,15 +182,19 @@ module _ (s : Bytes) (loads : Loads s) where
       (ap (λ (ts : List Transition). fireFirst ts (u .action) (at l x y)) (d .is) ∙ only-fires (d .left) u (d .right) (λ o. deterministic s loads l (subst⁻¹ OverlapIn (d .is) o)) (at l x y) (true-T (z .0)))
       (alive-lives (u .target) (keptFirst u x) (keptSecond u y) g (f .live (u .target) (keptFirst u x) (keptSecond u y) g (z .1))))
 
-  waits-lives : (t : List ℕ) → Sound s t → (n l x y : ℕ) → Stands s l x y → member t l (min (x + n) top) (min (y + n) top) ≡ true → Lives l x y
-  waits-lives t f zero l x y h e =
+  -- Some ticks later.
+  later-lives : (n l x y : ℕ) → Stands s l x y → (Stands s l (min (x + n) top) (min (y + n) top) → Lives l (min (x + n) top) (min (y + n) top)) → Lives l x y
+  later-lives zero l x y h f =
       let a : min (x + 0) top ≡ x = omega (arith, h .first) in
       let b : min (y + 0) top ≡ y = omega (arith, h .second) in
-      alive-lives l x y h (f .live l x y h (rw (a, b) at e))
-  waits-lives t f (suc n) l x y h e =
+      rw (a, b) at (f (rw (a, b) h))
+  later-lives (suc n) l x y h f =
       let a : min (x + suc n) top ≡ min (min (x + 1) top + n) top = omega arith in
       let b : min (y + suc n) top ≡ min (min (y + 1) top + n) top = omega arith in
-      tick (waits-lives t f n l (min (x + 1) top) (min (y + 1) top) (tick-stands h) (rw (a, b) at e))
+      tick (later-lives n l (min (x + 1) top) (min (y + 1) top) (tick-stands h) (λ g. rw (a, b) at (f (rw (a, b) g))))
+
+  waits-lives : (t : List ℕ) → Sound s t → (n l x y : ℕ) → Stands s l x y → member t l (min (x + n) top) (min (y + n) top) ≡ true → Lives l x y
+  waits-lives t f n l x y h e = later-lives n l x y h (λ g. alive-lives l (min (x + n) top) (min (y + n) top) g (f .live l (min (x + n) top) (min (y + n) top) g e))
 
   -- Rows stay sound.
   sound-at : {t : List ℕ} (u : List ℕ) {l : ℕ} → Sound s t → length u ≡ length t → Others t u l → ((x y : ℕ) → Stands s l x y → member u l x y ≡ true → alive s l x y ≡ true) → Sound s u
@@ -204,10 +231,6 @@ module _ (s : Bytes) (loads : Loads s) where
 
   pub turns-begun : {t : List ℕ} (l set p : ℕ) → Sound s t → p ≡ offset s l → Turns s t t l set p false
   turns-begun l set p f e = record { gained = gained-refl l f; settled = λ q r h. absurd (omega (arith, r .after)) }
-
-  -- The place before the next.
-  place-before : {l p : ℕ} (q : ℕ) → Place s l p → Place s l q → q < p + 7 → (q < p) ⊎ (q ≡ p)
-  place-before {l} {p} q h r k = same-or q p inr (λ ne. inl (omega (arith, h .after, h .whole, r .after, r .whole)))
 
   module _ {t u w : List ℕ} {l set p : ℕ} {a b : Bool} (r : Place s l p) (f : Turns s t u l set p a) (g : Turn s u w l set p b) where
     pub turns-more : b ≡ true → Turns s t w l set (p + 7) true
@@ -253,14 +276,39 @@ module _ (s : Bytes) (loads : Loads s) where
   pub turns-none : {t u : List ℕ} {l set e : ℕ} {b : Bool} → b ≡ false → Turns s t u l set e b → e ≡ offset s l + size s l → Ticked s t l → Improved s t u l set false
   turns-none {t} {u} {l} {set} {e} {b} h f₀ d k = let f = subst (Turns s t u l set e) h f₀ in record { gained = f .gained; settled = λ q r i. f .settled q r (omega (arith, r .inside)) i; ticked = gained-same (f .gained) (λ v. Ticked s v l) refl k }
 
-  -- An accepting location has every configuration.
-  pub accepting-done : {t : List ℕ} {l : ℕ} (set : ℕ) → l < locations s → Sound s t → Full s t → Ticked s t l → accepting s l ≡ true → Improved s t t l set false
-  accepting-done {t} {l} set h f g k e = record { gained = gained-refl l f; settled = λ q r i. inr (λ x y p j o d. g l x y (omega (arith, header s loads .locations-fit)) p j o e); ticked = k }
+  -- A location with the saturated configuration has every one.
+  pub whole-done : {t : List ℕ} {l : ℕ} (set : ℕ) → Sound s t → Ticked s t l → member t l top top ≡ true → Improved s t t l set false
+  whole-done {t} {l} set f k e = record { gained = gained-refl l f; settled = λ q r i. inr (λ x y p j o d. closed-whole t l (least s) k e x y p j o); ticked = k }
+
+  -- Where the saturated configuration leads into the rows, every configuration of the location is live.
+  module _ {t : List ℕ} {l set e : ℕ} (f : Sound s t) (found : FromSaturated s t l set e true) where
+    saturated-lives : (x y : ℕ) → Stands s l x y → alive s l x y ≡ true
+    saturated-lives x y g =
+        let a : min (x + top) top ≡ top = omega arith in
+        let b : min (y + top) top ≡ top = omega arith in
+        let z = found .found refl in
+        lives-alive l x y g (later-lives top l x y g (λ i. rw (a, b) (let w = rw (a, b) at i in alive-lives l top top w (leads-alive t f l top top (z .0) (z .1) w (z .3)))))
+
+    pub fill-gained : {u : List ℕ} → getD t (l * width + top) 0 < 2 ^ 64 → member t l top top ≡ false → (from : ℕ) → from ≡ least s → LocationFilled t u l from → Improved s t u l set true
+    fill-gained {u} lt d from i a₀ = record {
+      gained = record {
+        sound = sound-at u f (a .sized) (a .others) (λ x y g _. saturated-lives x y g);
+        others = a .others;
+        kept = λ x y p q o k. a .full x y p q o;
+        larger = λ _. a .larger (short (getD t (l * width + top) 0) top lt (omega arith) d);
+        same = λ k. absurd (true≢false k);
+      };
+      settled = λ q r k. inr (λ x y p i o j. a .full x y p i o);
+      ticked = λ x y p q o k. a .full x y p q o;
+    }
+      where
+        a : LocationFilled t u l (least s)
+        a = subst (LocationFilled t u l) i a₀
 
   -- ---- Sweeps
 
-  pub sweep-begun : {t : List ℕ} {set : ℕ} → Unsettled s t set → Sweeping s t t set 0 0
-  sweep-begun f = record {
+  pub sweep-begun : {t : List ℕ} {set l : ℕ} → Unsettled s t set → locations s ≤ l → Sweeping s t t set l 0
+  sweep-begun f o = record {
     sound = f .sound;
     full = f .full;
     ticked = f .ticked;
@@ -269,7 +317,14 @@ module _ (s : Bytes) (loads : Loads s) where
     larger = λ n. absurd (n refl);
   }
 
-  module _ {t u w : List ℕ} {set l next : ℕ} {b : Bool} (h : l < locations s) (f : Sweeping s t u set l next) (g : Improved s u w l set b) where
+  -- A location is improved by those that have gained, be it in the last sweep or in this one.
+  module _ {t u w : List ℕ} {set more n next : ℕ} {b : Bool} (within : (j : ℕ) → bit set j ≡ true → bit more j ≡ true) (pos : 0 < n) (few : n ≤ locations s) (f : Sweeping s t u set n next) (g : Improved s u w (n - 1) more b) where
+    abbrev l : ℕ
+    l = n - 1
+
+    h : l < locations s
+    h = omega arith
+
     ticked-next : (k : ℕ) → k < locations s → Ticked s w k
     ticked-next k i = same-or k l (λ e. subst⁻¹ (Ticked s w) e (g .ticked)) (λ ne. ticked-other (g .gained) k ne (f .ticked k i))
 
@@ -289,13 +344,13 @@ module _ (s : Bytes) (loads : Loads s) where
       ruled-here q r e = go (bit set (byte s (q + 1))) refl
         where
           go : (c : Bool) → bit set (byte s (q + 1)) ≡ c → Included s w l (transitionAt s q)
-          go true d = ⊎-elim (λ z. absurd (clear (byte s (q + 1)) e .1 (z .0) (z .1))) (λ z. z) (g .settled q r d)
+          go true d = ⊎-elim (λ z. absurd (clear (byte s (q + 1)) e .1 (z .0) (z .1))) (λ z. z) (g .settled q r (within (byte s (q + 1)) d))
           go false d = ruled-kept l q e (f .included l q h r (inr d) (clear (byte s (q + 1)) e .0))
 
-      ruled-next : (k q : ℕ) → k < locations s → Place s k q → (k < l + 1) ⊎ (bit set (byte s (q + 1)) ≡ false) → bit next' (byte s (q + 1)) ≡ false → Included s w k (transitionAt s q)
+      ruled-next : (k q : ℕ) → k < locations s → Place s k q → (l ≤ k) ⊎ (bit set (byte s (q + 1)) ≡ false) → bit next' (byte s (q + 1)) ≡ false → Included s w k (transitionAt s q)
       ruled-next k q i r c e = same-or k l (λ d. subst⁻¹ (λ (j : ℕ). Included s w j (transitionAt s q)) d (ruled-here q (subst (λ (j : ℕ). Place s j q) d r) e)) (λ ne. ruled-kept k q e (f .included k q i r (⊎-elim (λ z. inl (omega arith)) inr c) (clear (byte s (q + 1)) e .0)))
 
-    pub sweep-none : b ≡ false → Sweeping s t w set (l + 1) next
+    pub sweep-none : b ≡ false → Sweeping s t w set (n - 1) next
     sweep-none e = record {
       sound = g .gained .sound;
       full = full-next;
@@ -305,7 +360,7 @@ module _ (s : Bytes) (loads : Loads s) where
       larger = λ n. rw (g .gained .same e) (f .larger n);
     }
 
-    pub sweep-more : (next' : ℕ) → b ≡ true → Added next l next' → Sweeping s t w set (l + 1) next'
+    pub sweep-more : (next' : ℕ) → b ≡ true → Added next (n - 1) next' → Sweeping s t w set (n - 1) next'
     sweep-more next' e a = record {
       sound = g .gained .sound;
       full = full-next;
@@ -323,7 +378,7 @@ module _ (s : Bytes) (loads : Loads s) where
             go false x true y z = absurd (true≢false z)
             go false x false y z = (y, λ _ k. eqb-false j l x k)
 
-  pub sweep-ended : {t u : List ℕ} {set l next : ℕ} → Sweeping s t u set l next → locations s ≤ l → Swept s t u next
+  pub sweep-ended : {t u : List ℕ} {set l next : ℕ} → Sweeping s t u set l next → l ≤ 0 → Swept s t u next
   sweep-ended f h = record {
     pending = record { sound = f .sound; full = f .full; ticked = f .ticked; included = λ k q i r e. f .included k q i r (inl (omega arith)) e };
     grows = f .grows;
@@ -424,7 +479,11 @@ table-counted {s} counts n from f e g c = record {
   sized = c .sized;
   fits = f .fits;
   right = λ l r h. let z = standing-stands h in c .right l (getD r 0 0) (getD r 1 0) (omega (arith, z .in-sheet)) (z .first) (omega (arith, z .used)) (z .second) ∙ f .right l r h;
+  rest = λ j k. c .rest j (λ l h z. k l (z .0 ∷ z .1 ∷ []) (standing l (z .0) (z .1) (omega arith) (z .2) (omega (arith, z .3)) (z .4)) (z .5));
 }
+  where
+    standing : (l x y : ℕ) → l < locations s → x ≤ top → least s ≤ y → y ≤ top → Standing s l (x ∷ y ∷ [])
+    standing l x y h p q o = record { in-sheet = h; readings = record { two = refl; first = p; second = o }; one-clock = λ d. let z = rw (eq-eqb (clocks s) 1 d) at q in omega arith }
 
 pub table-closed : {s : Bytes} {t : List ℕ} (n from : ℕ) → LiveSet s t → n ≡ locations s → from ≡ least s → (l : ℕ) → l < n → Closed t from l
 table-closed n from f e g l h = rw g (f .ticked l (omega arith))

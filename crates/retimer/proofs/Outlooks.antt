@@ -1,7 +1,7 @@
 -- What a list of actions comes to from a set of configurations.
 -- Assumes nothing.
 use mathlib.Core.Path.{_≡_, refl, ap, sym, _∙_, subst, subst⁻¹}
-use mathlib.Core.Bool.{Bool, true, false, cond}
+use mathlib.Core.Bool.{Bool, true, false}
 use mathlib.Core.List.{List, [], _∷_}
 use mathlib.Core.Logic.{_↔_}
 use Prim.Native.Nat.{ℕ, _+_, _^_, _≤_, _<_}
@@ -18,7 +18,6 @@ use Rattle.enforcement.specs.TimedWord.{Configuration}
 use Rattle.enforcement.specs.Model.{top, Prospect, ticks, extensible, dead, prospect}
 use Rattle.enforcement.specs.Monitor.{isDead}
 use Rattle.enforcement.proofs.Bits.{none-in, in-and, some-in}
-use Rattle.enforcement.proofs.Liveness.{here}
 use Rattle.retimer.specs.declared.outlook.Outlook.{Outlook}
 use Rattle.retimer.specs.declared.outlook.Outlook.the-variants.{Correct, Extensible, Dead}
 use Rattle.retimer.specs.Counts.{counted}

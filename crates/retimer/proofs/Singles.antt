@@ -1,7 +1,7 @@
 -- What a single action comes to, and whether any next action leads to a live configuration, by the location's transitions.
 -- Assumes nothing.
 use mathlib.Core.Path.{_≡_, refl, subst}
-use mathlib.Core.Bool.{Bool, true, false, cond, _&&_}
+use mathlib.Core.Bool.{Bool, true, false, _&&_}
 use mathlib.Core.List.{List, [], _∷_}
 use mathlib.Core.Logic.{inl, inr, _↔_}
 use Prim.Native.Nat.{ℕ, zero, suc, _+_, _<_, min}
@@ -15,10 +15,8 @@ use Rattle.enforcement.specs.Model.{top, Prospect, ticks, extensible, dead, Com
 use Rattle.enforcement.specs.Monitor.{isDead, noneNext}
 use Rattle.enforcement.proofs.Tests.{Finds}
 use Rattle.enforcement.proofs.Loading.{bounded}
-use Rattle.enforcement.proofs.Liveness.{here}
 use Rattle.retimer.specs.Optimum.{modelOf}
 use Rattle.retimer.specs.Waits.{firstWait, endWait, along}
-use Rattle.retimer.specs.declared.outlook.Outlook.the-variants.{Dead}
 use Rattle.retimer.specs.Steps.{One}
 use Rattle.retimer.specs.Outlook.{Ends, Lives}
 use Rattle.retimer.proofs.ProspectKinds.{Saturated, ends-kind, lives-kind}

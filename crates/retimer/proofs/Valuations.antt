@@ -53,15 +53,6 @@ built-reset set {r} {a} {b} h e f =
     let same : (a ∷ b ∷ []) ≡ resetBy set r = rw (d, e, f) refl in
     (same, rw same (reset-readings set h))
 
--- Below saturation waiting is exact.
-pub waited-first : (n : ℕ) (r : List ℕ) → getD r 0 0 + n ≤ top → getD (waited n r) 0 0 ≡ getD r 0 0 + n
-unfolding waited
-waited-first n r h = omega arith
-
-pub waited-second : (n : ℕ) (r : List ℕ) → getD r 1 0 + n ≤ top → getD (waited n r) 1 0 ≡ getD r 1 0 + n
-unfolding waited
-waited-second n r h = omega arith
-
 -- ---- Configurations
 
 pub located-waited : (l n : ℕ) (r : List ℕ) → located l (waited n r) ≡ advance n (located l r)

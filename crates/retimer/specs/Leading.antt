@@ -72,6 +72,14 @@ pub record WaitsAdded (t u : List ℕ) (l from : ℕ) : Type 0 where
   pub below : (y : ℕ) → y < from → y ≤ top → getD u (l * width + y) 0 ≡ getD t (l * width + y) 0
   pub grows : slack u ≤ slack t
 
+-- The location l has every configuration now, but for second readings below from; the rows have grown if the last one of l could.
+pub record LocationFilled (t u : List ℕ) (l from : ℕ) : Type 0 where
+  pub sized : length u ≡ length t
+  pub others : Others t u l
+  pub full : (x y : ℕ) → x ≤ top → from ≤ y → y ≤ top → member u l x y ≡ true
+  pub below : (y : ℕ) → y < from → y ≤ top → getD u (l * width + y) 0 ≡ getD t (l * width + y) 0
+  pub larger : getD t (l * width + top) 0 < 2 ^ 64 - 1 → slack u < slack t
+
 -- The locations of a set have every configuration now, the others are as they were.
 pub record Filled (t u : List ℕ) (places : ℕ) : Type 0 where
   pub sized : length u ≡ length t

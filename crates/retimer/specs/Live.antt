@@ -3,21 +3,22 @@ use mathlib.Core.Path.{_≡_}
 use mathlib.Core.Bool.{Bool, true, false, cond}
 use mathlib.Core.List.{List}
 use mathlib.Core.Logic.{_⊎_}
-use Prim.Native.Nat.{ℕ, _+_, _-_, _%_, _≤_, _<_, min}
+use Prim.Native.Nat.{ℕ, _+_, _-_, _%_, _≤_, _<_}
 use lib.Dec.{eqb}
 use lib.ListN.{length, getD}
 use Rattle.enforcement.specs.Limits.{maxCount}
 use Rattle.enforcement.specs.Automaton.{Bytes, Transition, automaton, byte, bit, accepting, clocks, locations, offset, size, transitionAt}
 use Rattle.enforcement.specs.Model.{top, compile}
 use Rattle.retimer.specs.Readings.{Standing, located}
-use Rattle.retimer.specs.Counts.{countsSize, counted}
+use Rattle.retimer.specs.Counts.{countsSize, counted, place, Closed}
 use Rattle.retimer.specs.Leading.{allRows, member, slack, leads, Others}
 
--- The table has exactly the configurations from which an accepting location can still be reached.
+-- The table has exactly the configurations from which an accepting location can still be reached, and 0 on every place where none of the automaton's lies.
 pub record LiveTable (s : Bytes) (t : List ℕ) : Type 0 where
   pub sized : length t ≡ countsSize
   pub fits : locations s ≤ maxCount
   pub right : (l : ℕ) (r : List ℕ) → Standing s l r → counted t l (getD r 0 0) (getD r 1 0) ≡ compile (automaton s) .live (located l r)
+  pub rest : (j : ℕ) → ((l : ℕ) (r : List ℕ) → Standing s l r → j ≡ place l (getD r 0 0) (getD r 1 0) → ⊥) → getD t j 0 ≡ 0
 
 -- ---- How it is found
 
@@ -56,16 +57,16 @@ Included s t l v = (x y : ℕ) → x ≤ top → least s ≤ y → y ≤ top →
 
 -- The location l has the configurations from which a tick leads into its rows.
 abbrev pub Ticked : Bytes → List ℕ → ℕ → Type 0
-Ticked s t l = (x y : ℕ) → x ≤ top → least s ≤ y → y ≤ top → member t l (min (x + 1) top) (min (y + 1) top) ≡ true → member t l x y ≡ true
+Ticked s t l = Closed t (least s) l
 
--- The set has exactly the configurations from which an accepting location can still be reached.
+-- The set has exactly the configurations from which an accepting location can still be reached, and so with each the one a tick before it.
 pub record LiveSet (s : Bytes) (t : List ℕ) : Type 0 where
   pub sized : length t ≡ allRows
   pub fits : locations s ≤ maxCount
   pub right : (l : ℕ) (r : List ℕ) → Standing s l r → member t l (getD r 0 0) (getD r 1 0) ≡ compile (automaton s) .live (located l r)
   pub ticked : (l : ℕ) → l < locations s → Ticked s t l
 
--- The rows u come from t: only the location l has gained, if b.
+-- The rows u come from t: only those of the location l are others, and have grown, if b.
 pub record Gained (s : Bytes) (t u : List ℕ) (l : ℕ) (b : Bool) : Type 0 where
   pub sound : Sound s u
   pub others : Others t u l
@@ -87,7 +88,12 @@ pub record Turns (s : Bytes) (t u : List ℕ) (l set p : ℕ) (b : Bool) : Type 
   pub gained : Gained s t u l b
   pub settled : (q : ℕ) → Place s l q → q < p → bit set (byte s (q + 1)) ≡ true → Settled s u l b q
 
--- All are, and what a tick takes into the rows of l is in them.
+-- If b, a transition of l whose target is in the set leads from saturated readings into the rows; if not, none at a place below p does.
+pub record FromSaturated (s : Bytes) (t : List ℕ) (l set p : ℕ) (b : Bool) : Type 0 where
+  pub found : b ≡ true → (q : ℕ) × Place s l q × (bit set (byte s (q + 1)) ≡ true) × (leads t (transitionAt s q) top top ≡ true)
+  pub none : b ≡ false → (q : ℕ) → Place s l q → q < p → bit set (byte s (q + 1)) ≡ true → leads t (transitionAt s q) top top ≡ false
+
+-- All transitions of l whose target is in the set are looked at, and what a tick takes into the rows of l is in them.
 pub record Improved (s : Bytes) (t u : List ℕ) (l set : ℕ) (b : Bool) : Type 0 where
   pub gained : Gained s t u l b
   pub settled : (q : ℕ) → Place s l q → bit set (byte s (q + 1)) ≡ true → Settled s u l b q

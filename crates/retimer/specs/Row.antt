@@ -50,10 +50,10 @@ pub record UpTo (r v : ℕ) : Type 0 where
 pub record Spread (r v : ℕ) : Type 0 where
   pub bits : (x : ℕ) → x ≤ top → bit v x ≡ bit r 0
 
--- v has the readings of the row that are saturated, or of which the next row has not the one more.
-pub record Ends (row next v : ℕ) : Type 0 where
+-- v has the readings that the row has not, each 0 or one more than one of the row before.
+pub record Gaps (row before v : ℕ) : Type 0 where
   pub small : v < 2 ^ width
-  pub right : (x : ℕ) → In x v ↔ (In x row × (x ≤ top) × (x < top → In (x + 1) next → ⊥))
+  pub right : (x : ℕ) → In x v ↔ ((x ≤ top) × (In x row → ⊥) × ((z : ℕ) → x ≡ z + 1 → In z before))
 
 -- v is one more than the highest reading of the row, or 0 if it has none.
 pub record Highest (row v : ℕ) : Type 0 where

@@ -42,7 +42,7 @@ impl Monitor {
     pub const WIDTH: usize = Monitor::BOUND as usize + 2;
 
     pub const VALUATIONS: usize = Monitor::WIDTH * Monitor::WIDTH;
-    // The diagonals of a location's valuations, and those of all locations.
+    // Places for the diagonals of a location's valuations, and for those of all locations.
     pub const DIAGONALS: usize = 2 * Monitor::WIDTH;
 
     pub const COUNTS: usize = Monitor::COUNT * Monitor::DIAGONALS;

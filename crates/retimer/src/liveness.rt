@@ -6,16 +6,19 @@ use crate::sets;
 use crate::sets::diagonals;
 use crate::sets::lead;
 use crate::sets::meet;
+use crate::sets::whole;
 ghost use mathlib.Core.Path.{_≡_};
-ghost use mathlib.Core.Bool.{true};
+ghost use mathlib.Core.Bool.{true, _&&_};
 ghost use mathlib.Core.Logic.{_↔_};
 ghost use Prim.Native.Nat.{_+_, _<_};
+ghost use lib.ListN.{length};
 ghost use Rattle.enforcement.specs.Limits.{maxCount};
-ghost use Rattle.enforcement.specs.Automaton.{automaton, accepting, locations, offset, size};
-ghost use Rattle.enforcement.specs.Model.{compile};
+ghost use Rattle.enforcement.specs.Automaton.{automaton, byte, bit, accepting, locations, offset, size, transitionAt};
+ghost use Rattle.enforcement.specs.Model.{top, compile};
 ghost use Rattle.enforcement.specs.Loading.{Loads};
 ghost use Rattle.retimer.specs.Readings.{Standing, located};
-ghost use Rattle.retimer.specs.Live.{LiveTable, LiveSet, leastOf, least, Sound, Place, Ticked, Turn, Turns, Improved, Full, Unsettled, Swept};
+ghost use Rattle.retimer.specs.Leading.{allRows, leads};
+ghost use Rattle.retimer.specs.Live.{LiveTable, LiveSet, leastOf, least, Sound, Place, FromSaturated, Ticked, Turn, Turns, Improved, Unsettled, Swept};
 ghost use Rattle.retimer.specs.Outlook.{SomeLive, SetAsked};
 
 // The live configurations as a set.
@@ -23,7 +26,7 @@ struct Live {
     set: [u64; sets::SIZE],
 }
 
-// The table of live configurations: how many of each diagonal are live, which are its first ones.
+// The table of live configurations, as counts.
 pub struct Liveness {
     pub counts: [u8; Monitor::COUNTS],
 }
@@ -65,13 +68,45 @@ fn turns(s: &[u8], set: &mut [u64], l: usize, gained: u16, from: usize) -> bool
     changed
 }
 
-// Looks at the transitions of a location whose targets have gained, and at waits, unless it is accepting, and so has every configuration.
+// Whether the transition at a place leads from saturated readings into the set, if its target is one of those that have gained.
+fn from_saturated(s: &[u8], set: &[u64], l: usize, p: usize, gained: u16) -> bool
+    requires { ⌜ (Loads (now s)) × ((length (now set) ≡ allRows) × ((l < locations (now s)) × (Place (now s) l p))) ⌝ }
+    ensures { λ b. ⌜ b ≡ bit gained (byte (now (s .entry)) (p + 1)) && leads (now (set .entry)) (transitionAt (now (s .entry)) p) top top ⌝ }
+{
+    if locations::has(gained, bytes::wide(s[p + 1])) {
+        return lead::leads_saturated(s, set, p);
+    }
+    false
+}
+
+// Whether one of a location's transitions does. Every wait ends with saturated readings, so every configuration of the location is live then.
+fn some_from_saturated(s: &[u8], set: &[u64], l: usize, gained: u16) -> bool
+    requires { ⌜ (Loads (now s)) × ((length (now set) ≡ allRows) × (l < locations (now s))) ⌝ }
+    ensures { λ b. ⌜ FromSaturated (now (s .entry)) (now (set .entry)) l gained (offset (now (s .entry)) l + size (now (s .entry)) l) b ⌝ }
+{
+    let mut p = bytes::word_at(s, 6 + 4 * l);
+    let end = p + bytes::word_at(s, 8 + 4 * l);
+    while p < end {
+        let q = p;
+        p += 7;
+        if from_saturated(s, set, l, q, gained) {
+            return true;
+        }
+    }
+    false
+}
+
+// Looks at the transitions of a location whose targets have gained, and at waits, unless it has every configuration; answers whether it has gained one.
 fn improve(s: &[u8], set: &mut [u64], l: usize, gained: u16, from: usize) -> bool
-    requires { ⌜ (Loads (now s)) × ((Sound (now s) (now set)) × ((l < locations (now s)) × ((from ≡ least (now s)) × ((Full (now s) (now set)) × (Ticked (now s) (now set) l))))) ⌝ }
+    requires { ⌜ (Loads (now s)) × ((Sound (now s) (now set)) × ((l < locations (now s)) × ((from ≡ least (now s)) × (Ticked (now s) (now set) l)))) ⌝ }
     ensures { λ b. ⌜ Improved (now (s .entry)) (now (set .entry)) (now (set .exit)) l gained b ⌝ }
 {
-    if accepts(s, l) {
+    if whole::has_saturated(set, l) {
         return false;
+    }
+    if some_from_saturated(s, set, l, gained) {
+        whole::fill(set, l, from);
+        return true;
     }
     if turns(s, set, l, gained, from) {
         lead::close(set, l, from);
@@ -80,19 +115,17 @@ fn improve(s: &[u8], set: &mut [u64], l: usize, gained: u16, from: usize) -> boo
     false
 }
 
-// Improves every location; answers the set of those that have gained.
+// Improves every location, the last one first; answers the set of those that have gained. What gains counts for those after it in the same sweep.
 fn sweep(s: &[u8], set: &mut [u64], gained: u16, from: usize) -> u16
     requires { ⌜ (Loads (now s)) × ((Unsettled (now s) (now set) gained) × (from ≡ least (now s))) ⌝ }
     ensures { λ v. ⌜ Swept (now (s .entry)) (now (set .entry)) (now (set .exit)) v ⌝ }
 {
-    let locations = bytes::wide(s[0]);
     let mut next = 0;
-    let mut l = 0;
-    while l < locations {
-        let k = l;
-        l += 1;
-        if improve(s, set, k, gained, from) {
-            next = locations::with(next, k);
+    let mut l = bytes::wide(s[0]);
+    while 0 < l {
+        l -= 1;
+        if improve(s, set, l, gained | next, from) {
+            next = locations::with(next, l);
         }
     }
     next
@@ -113,7 +146,7 @@ fn live_set(s: &[u8]) -> Live
     let from = least(s[1] == 1);
     let mut set = [0u64; sets::SIZE];
     let mut gained = bytes::word_at(s, 4) as u16;
-    lead::fill(&mut set, gained);
+    whole::fill_each(&mut set, gained);
     while gained != 0 {
         gained = sweep(s, &mut set, gained, from);
     }

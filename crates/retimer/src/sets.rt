@@ -16,6 +16,9 @@ mod fire;
 // An action played, after any wait, from a set.
 pub mod play;
 
+// Whole locations.
+pub mod whole;
+
 // The configurations from which a transition or a wait leads into a set.
 pub mod lead;
 

@@ -1,4 +1,4 @@
--- The configurations that a transition takes into the rows: the loop over second readings.
+-- The configurations that a transition takes into the rows: the saturated one, and the loop over second readings.
 -- Assumes nothing.
 use mathlib.Core.Path.{_≡_, refl, ap, ap₂, sym, _∙_}
 use mathlib.Core.Bool.{Bool, true, false, cond, _||_, _&&_, and-true, and-false, or-false, false≢true, true≢false}
@@ -11,13 +11,14 @@ use lib.Seq.{getD-set-same, getD-set-other}
 use lib.Bits.{bitOr, bitAnd}
 use borrow.Author.Tests.{eq-eqb, ne-eqb, eqb-true, eqb-false, ltb-true, ltb-false}
 use Rattle.enforcement.specs.Limits.{maxCount}
-use Rattle.enforcement.specs.Automaton.{Transition, bit, within}
+use Rattle.enforcement.specs.Automaton.{Bytes, Transition, bit, within}
+use Rattle.enforcement.specs.Loading.{Fits}
 use Rattle.enforcement.specs.Model.{top, width}
 use Rattle.retimer.specs.Row.{Spread}
 use Rattle.retimer.specs.Sets.{past, Columns}
 use Rattle.retimer.specs.Leading.{allRows, member, slack, keptFirst, keptSecond, leads, Leading, RowAdded, Others, TransitionAdded}
 use Rattle.enforcement.proofs.Bits.{bit-or, bit-and, bit-lowest}
-use Rattle.retimer.proofs.sets.Bounding.{within-above, within-below, within-inside, columns-bit}
+use Rattle.retimer.proofs.sets.Bounding.{within-above, within-below, within-inside, saturated-in, saturated-out, columns-bit}
 use Rattle.retimer.proofs.Valuations.{cond-most}
 use Rattle.retimer.proofs.sets.Tables.{apart}
 
@@ -39,6 +40,25 @@ module _ (t : List ℕ) (target resets y k : ℕ) (e : k ≡ cond (eqb (resets /
   pub kept-fits : y ≤ top → k ≤ top
   kept-fits h = omega (arith, cond-most (eqb (resets / 2 % 2) 1) y top h)
 
+-- ---- From saturated readings
+
+-- A second reading out of bounds.
+leads-out : (t : List ℕ) (v : Transition) (x y : ℕ) → within (v .low2) (v .high2) y ≡ false → leads t v x y ≡ false
+unfolding leads
+leads-out t v x y e = rw (e, and-false (within (v .low1) (v .high1) x)) refl
+
+module _ (t : List ℕ) (s : Bytes) (v : Transition) (fits : Fits s v) where
+  pub first-stops : (v .high1 ≡ 255 → ⊥) → false ≡ leads t v top top
+  unfolding leads
+  first-stops ne = rw (saturated-out (v .low1) (v .high1) (fits .first) ne) refl
+
+  pub second-stops : (v .high2 ≡ 255 → ⊥) → false ≡ leads t v top top
+  second-stops ne = sym (leads-out t v top top (saturated-out (v .low2) (v .high2) (fits .second) ne))
+
+  pub saturated-leads : v .high1 ≡ 255 → v .high2 ≡ 255 → (n w : ℕ) → n ≡ v .target → Leading t n (v .resets) top w → bit w top ≡ leads t v top top
+  unfolding leads
+  saturated-leads e f n w h a = a .bits top (omega arith) ∙ rw (saturated-in (v .low1) (v .high1) (fits .first) e, saturated-in (v .low2) (v .high2) (fits .second) f, h) refl
+
 -- ---- The loop
 
 -- The rows from y on have gained what they are to gain, the others are as they were.
@@ -50,11 +70,6 @@ pub record Adding (t u : List ℕ) (l : ℕ) (v : Transition) (y : ℕ) (b : Boo
   pub above : (x k : ℕ) → x ≤ top → y ≤ k → k ≤ top → member u l x k ≡ (member t l x k || leads t v x k)
   pub larger : b ≡ true → slack u < slack t
   pub same : b ≡ false → u ≡ t
-
--- A second reading out of bounds.
-leads-out : (t : List ℕ) (v : Transition) (x y : ℕ) → within (v .low2) (v .high2) y ≡ false → leads t v x y ≡ false
-unfolding leads
-leads-out t v x y e = rw (e, and-false (within (v .low1) (v .high1) x)) refl
 
 or-out : {a b : Bool} → b ≡ false → a ≡ (a || b)
 or-out {a} {b} e = rw (e, or-false a) refl

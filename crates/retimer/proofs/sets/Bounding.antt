@@ -12,7 +12,7 @@ use Rattle.enforcement.specs.Automaton.{Bytes, Transition, bit, clocks, within,
 use Rattle.enforcement.specs.Loading.{Bounds, Fits}
 use Rattle.enforcement.specs.Model.{top, width}
 use Rattle.enforcement.proofs.Tests.{Tests, leb-tests, eqb-tests, both-tests, either-tests, test-true}
-use Rattle.retimer.specs.Row.{In, Interval}
+use Rattle.retimer.specs.Row.{Interval}
 use Rattle.retimer.specs.Sets.{second, height, past, Columns}
 
 within-tests : (low high x : ℕ) → Tests (within low high x) ((low ≤ x) × ((high ≡ 255) ⊎ (x ≤ high)))
@@ -67,6 +67,22 @@ within-above low high x h g = none-true _ (λ e. let w = within-past low high x 
 
 pub within-below : (low high x : ℕ) → x ≤ top → x < low → within low high x ≡ false
 within-below low high x h g = none-true _ (λ e. let w = within-past low high x h .1 e in omega (arith, w .0))
+
+-- At the saturated reading only a high bound can be in the way.
+pub saturated-in : (low high : ℕ) → Bounds low high → high ≡ 255 → within low high top ≡ true
+saturated-in low high b e = within-inside low high top (omega (arith, b .low-fits)) (go (eqb high 255) refl) (omega arith)
+  where
+    go : (c : Bool) → eqb high 255 ≡ c → top < cond c width (high + 1)
+    go true d = omega arith
+    go false d = absurd (eqb-false high 255 d e)
+
+pub saturated-out : (low high : ℕ) → Bounds low high → (high ≡ 255 → ⊥) → within low high top ≡ false
+saturated-out low high b ne = within-above low high top (omega arith) (go (eqb high 255) refl (b .high-fits))
+  where
+    go : (c : Bool) → eqb high 255 ≡ c → (high ≤ maxBound) ⊎ (high ≡ 255) → cond c width (high + 1) ≤ top
+    go true d f = absurd (ne (eqb-true high 255 d))
+    go false d (inl f) = omega arith
+    go false d (inr f) = absurd (ne f)
 
 -- A column is there just when its reading is within the bounds.
 pub columns-bit : {u : Transition} {v : ℕ} → Columns u v → (x : ℕ) → x ≤ top → bit v x ≡ within (u .low1) (u .high1) x

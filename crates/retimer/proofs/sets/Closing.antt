@@ -16,6 +16,7 @@ use Rattle.enforcement.specs.Limits.{maxCount}
 use Rattle.enforcement.specs.Automaton.{bit}
 use Rattle.enforcement.specs.Model.{top, width}
 use Rattle.retimer.specs.Row.{TickBefore, UpTo}
+use Rattle.retimer.specs.Counts.{Closed}
 use Rattle.retimer.specs.Leading.{allRows, member, slack, Others, Waits, WaitsAdded}
 use Rattle.enforcement.proofs.Bits.{bit-or, or-grows, or-cases, or-shown}
 use Rattle.retimer.proofs.sets.Tables.{apart, slack-grows}
@@ -59,6 +60,24 @@ waits-cases t l x y h g w = go (w .0) (w .1)
         let a : min (x + suc n) top ≡ min (min (x + 1) top + n) top = omega arith in
         let b : min (y + suc n) top ≡ min (min (y + 1) top + n) top = omega arith in
         inr (n, rw (a, b) at e)
+
+-- Rows that have, with a configuration, the one a tick before it, have the ones from which any wait leads into them.
+pub closed-waits : (rows : List ℕ) (l from : ℕ) → Closed rows from l → (n x y : ℕ) → x ≤ top → from ≤ y → y ≤ top → member rows l (min (x + n) top) (min (y + n) top) ≡ true → member rows l x y ≡ true
+closed-waits rows l from c zero x y p q o m =
+    let a : min (x + 0) top ≡ x = omega arith in
+    let b : min (y + 0) top ≡ y = omega arith in
+    rw (a, b) at m
+closed-waits rows l from c (suc n) x y p q o m =
+    let a : min (x + suc n) top ≡ min (min (x + 1) top + n) top = omega arith in
+    let b : min (y + suc n) top ≡ min (min (y + 1) top + n) top = omega arith in
+    c x y p q o (closed-waits rows l from c n (min (x + 1) top) (min (y + 1) top) (omega arith) (omega arith) (omega arith) (rw (a, b) at m))
+
+-- So with the saturated configuration they have every one of the location.
+pub closed-whole : (rows : List ℕ) (l from : ℕ) → Closed rows from l → member rows l top top ≡ true → (x y : ℕ) → x ≤ top → from ≤ y → y ≤ top → member rows l x y ≡ true
+closed-whole rows l from c m x y p q o =
+    let a : min (x + top) top ≡ top = omega arith in
+    let b : min (y + top) top ≡ top = omega arith in
+    closed-waits rows l from c top x y p q o (rw (a, b) m)
 
 -- ---- The loop
 

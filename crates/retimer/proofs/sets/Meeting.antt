@@ -12,7 +12,7 @@ use lib.ListN.{length, getD}
 use lib.Bits.{bitAnd, and-le-r}
 use lib.Count.{trailingZeros}
 use lib.Pow.{pow-pos}
-use borrow.Author.Tests.{eqb-true, eqb-false, ltb-true, ltb-false, lt-ltb}
+use borrow.Author.Tests.{eqb-true, eqb-false, ltb-true, ltb-false}
 use Rattle.enforcement.specs.Limits.{maxCount}
 use Rattle.enforcement.specs.Automaton.{Bytes, bit, locations}
 use Rattle.enforcement.specs.Model.{top, width}
@@ -22,9 +22,9 @@ use Rattle.retimer.proofs.sets.Setting.{height-most}
 use Rattle.retimer.proofs.sets.Landing.{contains-at, reached-covers}
 use Rattle.enforcement.proofs.Bits.{none-in, in-below, lowest-is, dropped-is}
 use Rattle.retimer.proofs.sets.Parts.{rows-end}
-use Rattle.retimer.specs.Counts.{diagonals, diagonal, position, counted}
+use Rattle.retimer.specs.Counts.{counted}
 use Rattle.retimer.specs.Meeting.{RowAsked, MeetsRow, RowsAsked, MeetsAt, Covered, MeetAsked, Meets}
-use Rattle.retimer.proofs.sets.Lines.{diagonal-top, position-top, position-min, line-same}
+use Rattle.retimer.proofs.sets.Lines.{diagonal-top, position-top, position-min, line-same, counted-earlier}
 
 -- ---- The readings of a row
 
@@ -68,13 +68,6 @@ module _ (counts : List ℕ) (l y row left : ℕ) (m : Left counts l y row left)
       zero-is = omega arith
 
 -- ---- The saturated row
-
--- Of two configurations of one diagonal the counts have the earlier if they have the later.
-counted-earlier : (counts : List ℕ) (l x y z w : ℕ) → diagonal x y ≡ diagonal z w → position x y ≤ position z w → counted counts l z w ≡ true → counted counts l x y ≡ true
-counted-earlier counts l x y z w d p e =
-    let g = ltb-true (position z w) (getD counts (l * diagonals + diagonal z w) 0) e in
-    let h : getD counts (l * diagonals + diagonal x y) 0 ≡ getD counts (l * diagonals + diagonal z w) 0 = ap (λ (n : ℕ). getD counts (l * diagonals + n) 0) d in
-    lt-ltb (position x y) (getD counts (l * diagonals + diagonal x y) 0) (omega arith)
 
 pub saturated-none : (counts : List ℕ) (l row : ℕ) → row ≡ 0 → (false ≡ true) ↔ MeetsRow counts l top row
 saturated-none counts l row e = (λ d. absurd (false≢true d), λ w. absurd (none-in (w .0) (sym (ap (λ (n : ℕ). bit n (w .0)) e) ∙ w .1)))

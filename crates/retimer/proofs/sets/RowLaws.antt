@@ -2,19 +2,19 @@
 -- Assumes nothing.
 use mathlib.Core.Path.{_≡_, refl, ap, sym, _∙_}
 use mathlib.Core.Bool.{Bool, true, false, _||_, and-true, and-false, or-false}
-use mathlib.Core.Logic.{_⊎_, inl, inr, ⊎-elim}
+use mathlib.Core.Logic.{_⊎_, inl, inr, ⊎-elim, _↔_}
 use Prim.Native.Nat.{ℕ, zero, suc, _+_, _*_, _-_, _/_, _%_, _^_, _≤_, _<_, min}
 use native.Mathlib.Omega.{arith}
 use native.Mathlib.Nat.{lt-of-le-of-lt, mod-lt, pow-suc, one-mul, div-eq-of-lt-le}
 use lib.Dec.{eqb, ltb}
-use lib.Pow.{pow-pos, pow-mono, high, shl-exact}
+use lib.Pow.{pow-pos, pow-mono, shl-exact}
 use lib.Bits.{bitOr, bitAnd, bitXor, or-lt, and-le-l}
 use lib.Count.{leadingZeros, leading-length, trailingZeros}
 use borrow.Author.Tests.{eq-eqb, ne-eqb, eqb-true, eqb-false, ltb-true, ltb-false}
 use Rattle.enforcement.specs.Automaton.{bit}
 use Rattle.enforcement.specs.Model.{top, width}
-use Rattle.enforcement.proofs.Bits.{bit-or, bit-and, bit-none, bit-shifted, bit-low, bit-high, bit-power, bit-ones, bit-lowest, none-in, in-below, in-or, in-and, in-without, interval-in, power-in, low-in, double-in, Lowest, lowest-is}
-use Rattle.retimer.specs.Row.{In, Interval, TickAfter, Upward, Fresh, TickBefore, UpTo, Spread, Ends, Highest}
+use Rattle.enforcement.proofs.Bits.{bit-or, bit-and, bit-none, bit-shifted, bit-low, bit-high, bit-power, bit-ones, bit-lowest, bit-half, none-in, in-below, in-or, in-and, in-without, interval-in, power-in, low-in, double-in, Lowest, lowest-is}
+use Rattle.retimer.specs.Row.{In, Interval, TickAfter, Upward, Fresh, TickBefore, UpTo, Spread, Gaps, Highest}
 
 -- ---- Intervals
 
@@ -108,17 +108,29 @@ spread-all r e = record { bits = λ x h. bit-ones 64 x (omega arith) ∙ sym (bi
 pub spread-none : (r : ℕ) → (r % 2 ≡ 1 → ⊥) → Spread r 0
 spread-none r e = record { bits = λ x h. bit-none x ∙ sym (bit-lowest r ∙ ne-eqb (r % 2) 1 e) }
 
--- ---- The ends of diagonals
+-- ---- The gaps of a row
 
-pub ends-right : (row next : ℕ) → Ends row next (bitAnd (row % 2 ^ width) (bitXor (row % 2 ^ width) (next / 2 ^ 1 % 2 ^ top)))
-ends-right row next = record {
-  small = lt-of-le-of-lt (and-le-l (row % 2 ^ width) (bitXor (row % 2 ^ width) (next / 2 ^ 1 % 2 ^ top))) (mod-lt row (pow-pos width));
-  right = λ x. let w = in-without (row % 2 ^ width) (next / 2 ^ 1 % 2 ^ top) x in let a = low-in row width x in let b = low-in (next / 2 ^ 1) top x in
-      (λ m. let u = w .0 m in let v = a .0 (u .0) in (v .1, omega (arith, v .0), λ h k. u .1 (b .1 (h, shifted x ∙ k))), λ m. w .1 (a .1 (omega (arith, m .1), m .0), λ k. let v = b .0 k in m .2 (v .0) (sym (shifted x) ∙ v .1)));
-}
+-- Reading 0, and one more than each of the row.
+begun-in : (n x : ℕ) → In x (n * 2 + 1) ↔ ((z : ℕ) → x ≡ z + 1 → In z n)
+begun-in n zero = (λ m z e. absurd (omega arith), λ u. let w : (n * 2 + 1) % 2 ≡ 1 = omega arith in bit-lowest (n * 2 + 1) ∙ eq-eqb ((n * 2 + 1) % 2) 1 w)
+begun-in n (suc x) = (λ m z e. let d : z ≡ x = omega arith in ap (bit n) d ∙ sym half ∙ m, λ u. half ∙ u x (omega arith))
   where
-    shifted : (x : ℕ) → bit (next / 2 ^ 1) x ≡ bit next (x + 1)
-    shifted x = let z : 1 + x ≡ x + 1 = omega arith in bit-shifted next 1 x ∙ ap (bit next) z
+    half : bit (n * 2 + 1) (suc x) ≡ bit n x
+    half = let w : (n * 2 + 1) / 2 ≡ n = omega arith in bit-half (n * 2 + 1) x ∙ ap (λ (i : ℕ). bit i x) w
+
+module _ (row before : ℕ) where
+  abbrev next : ℕ
+  next = before % 2 ^ top * 2 + 1
+
+  next-small : next < 2 ^ width
+  next-small = omega arith
+
+  pub gaps-right : Gaps row before (bitAnd next (bitXor next row))
+  gaps-right = record {
+    small = lt-of-le-of-lt (and-le-l next (bitXor next row)) next-small;
+    right = λ x. let w = in-without next row x in let b = begun-in (before % 2 ^ top) x in
+        (λ m. let u = w .0 m in (omega (arith, in-below width next x next-small (u .0)), u .1, λ z e. low-in before top z .0 (b .0 (u .0) z e) .1), λ m. w .1 (b .1 (λ z e. low-in before top z .1 (omega (arith, m .0), m .2 z e)), m .1));
+  }
 
 -- ---- The highest reading
 

@@ -15,7 +15,7 @@ use borrow.Rule.Slice.PartMut.{putMid}
 use Rattle.enforcement.specs.Limits.{maxCount}
 use Rattle.enforcement.specs.Automaton.{Bytes, Transition, transitions, bit, clocks, locations, enabled}
 use Rattle.enforcement.specs.Loading.{Loads, Fits, AllFit, Bounded}
-use Rattle.enforcement.specs.TimedWord.{Configuration, step}
+use Rattle.enforcement.specs.TimedWord.{Configuration}
 use Rattle.enforcement.specs.Model.{top, width, advance}
 use Rattle.enforcement.proofs.Loading.{bounded}
 use Rattle.retimer.specs.Sets.{Narrow, Member, Waited, second, height, at, Whole, Cleared, Leads, Plays, PlayedAt, Moves, PlayedFrom, PlayedBelow, Covers}

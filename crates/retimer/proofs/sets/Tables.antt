@@ -3,7 +3,7 @@
 use mathlib.Core.Path.{_≡_, refl, ap, sym, _∙_}
 use mathlib.Core.Bool.{Bool, true, false, not}
 use mathlib.Core.List.{List, [], _∷_}
-use Prim.Native.Nat.{ℕ, zero, suc, _+_, _*_, _^_, _≤_, _<_}
+use Prim.Native.Nat.{ℕ, zero, suc, _+_, _*_, _-_, _^_, _≤_, _<_}
 use native.Mathlib.Omega.{arith}
 use native.Mathlib.Nat.{le-refl}
 use lib.Dec.{eqb}
@@ -33,6 +33,12 @@ pub slack-grows : (t : List ℕ) (i v : ℕ) → getD t i 0 ≤ v → slack (set
 slack-grows [] i v g = le-refl 0
 slack-grows (x ∷ t) zero v g = omega arith
 slack-grows (x ∷ t) (suc i) v g = omega (arith, slack-grows t i v g)
+
+-- A row that can't grow leaves the least slack.
+pub slack-full : (t : List ℕ) (i : ℕ) → slack (set t i (2 ^ 64 - 1)) ≤ slack t
+slack-full [] i = le-refl 0
+slack-full (x ∷ t) zero = omega arith
+slack-full (x ∷ t) (suc i) = omega (arith, slack-full t i)
 
 -- A row is stored with more readings.
 module _ (t : List ℕ) (i m : ℕ) (h : i < length t) (f : getD t i 0 < 2 ^ 64) (g : m < 2 ^ 64) where

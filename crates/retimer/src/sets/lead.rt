@@ -1,8 +1,6 @@
-// The configurations from which a transition or a wait leads into a set; and whole locations.
+// The configurations from which a transition or a wait leads into a set.
 use crate::bytes;
 use crate::limits::Monitor;
-use crate::locations;
-use crate::sets;
 use crate::sets::bounds;
 use crate::sets::row;
 ghost use mathlib.Core.Path.{_≡_};
@@ -14,7 +12,7 @@ ghost use Rattle.enforcement.specs.Limits.{maxCount};
 ghost use Rattle.enforcement.specs.Automaton.{locations, transitionAt};
 ghost use Rattle.enforcement.specs.Loading.{Fits};
 ghost use Rattle.enforcement.specs.Model.{top};
-ghost use Rattle.retimer.specs.Leading.{allRows, Leading, RowAdded, TransitionAdded, WaitsAdded, Filled};
+ghost use Rattle.retimer.specs.Leading.{allRows, leads, Leading, RowAdded, TransitionAdded, WaitsAdded};
 
 // A second reading after a transition: 0 where the clock's bit is set.
 fn kept(bit: u8, y: usize) -> usize
@@ -34,6 +32,21 @@ fn leading(rows: &[u64], target: usize, resets: u8, y: usize) -> u64
         return row::spread(row);
     }
     row
+}
+
+// Whether the transition at a place leads from saturated readings into the rows: of bounds, only high ones are in its way.
+pub fn leads_saturated(s: &[u8], rows: &[u64], p: usize) -> bool
+    requires { ⌜ (length (now rows) ≡ allRows) × ((p + 7 ≤ length (now s)) × ((Fits (now s) (transitionAt (now s) p)) × (locations (now s) ≤ maxCount))) ⌝ }
+    ensures { λ b. ⌜ b ≡ leads (now (rows .entry)) (transitionAt (now (s .entry)) p) top top ⌝ }
+{
+    if s[p + 4] != 255 {
+        return false;
+    }
+    if s[p + 6] != 255 {
+        return false;
+    }
+    let row = leading(rows, bytes::wide(s[p + 1]), s[p + 2], Monitor::TOP as usize);
+    (row >> Monitor::TOP) % 2 == 1
 }
 
 // Adds readings to a row; answers whether it is another than before.
@@ -89,20 +102,5 @@ pub fn close(rows: &mut [u64], l: usize, from: usize)
         y -= 1;
         row = rows[base + y] | row::before(row);
         rows[base + y] = row;
-    }
-}
-
-// Gives some locations every configuration.
-pub fn fill(rows: &mut [u64], places: u16)
-    requires { ⌜ length (now rows) ≡ allRows ⌝ }
-    ensures { λ _. ⌜ Filled (now (rows .entry)) (now (rows .exit)) places ⌝ }
-{
-    let mut i = 0;
-    while i < sets::SIZE {
-        let k = i;
-        i += 1;
-        if locations::has(places, k / Monitor::WIDTH) {
-            rows[k] = u64::MAX;
-        }
     }
 }

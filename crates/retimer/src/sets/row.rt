@@ -3,7 +3,7 @@ use crate::bytes;
 use crate::limits::Monitor;
 ghost use Prim.Native.Nat.{_≤_, _<_, _^_};
 ghost use Rattle.enforcement.specs.Model.{width};
-ghost use Rattle.retimer.specs.Row.{Interval, TickAfter, Upward, Fresh, TickBefore, UpTo, Spread, Ends, Highest};
+ghost use Rattle.retimer.specs.Row.{Interval, TickAfter, Upward, Fresh, TickBefore, UpTo, Spread, Gaps, Highest};
 
 // The row of the saturated reading alone, and the first number that has a bit above it.
 const SATURATED: u64 = 1u64 << Monitor::TOP;
@@ -59,12 +59,12 @@ pub fn spread(row: u64) -> u64
     if row % 2 == 1 { u64::MAX } else { 0 }
 }
 
-// The readings of a row that are saturated, or of which the next row has not the one more. Bits above the saturated reading mean nothing here and below.
-pub fn ends(row: u64, next: u64) -> u64
-    ensures { λ v. ⌜ Ends row next v ⌝ }
+// The readings that a row has not, each 0 or one more than one of the row before. Bits above the saturated reading mean nothing here and below.
+pub fn gaps(row: u64, before: u64) -> u64
+    ensures { λ v. ⌜ Gaps row before v ⌝ }
 {
-    let readings = row % SPAN;
-    readings & (readings ^ ((next >> 1) % SATURATED))
+    let next = before % SATURATED * 2 + 1;
+    next & (next ^ row)
 }
 
 // One more than the highest reading of a row, or 0 if it has none.

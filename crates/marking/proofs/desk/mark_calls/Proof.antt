@@ -22,6 +22,9 @@ slice-aggregate-read-full c = search needs
 read-full-requires : tie.Need-read-full-requires Inv-loop μ-loop
 read-full-requires c κs = search needs
 
+returns : tie.Need-returns Inv-loop μ-loop
+returns c = search needs
+
 array-share-prefix-calls : tie.Need-array-share-prefix-calls Inv-loop μ-loop
 array-share-prefix-calls c = search needs
 
@@ -43,20 +46,20 @@ slice-aggregate-write-all c = search needs
 write-all-requires : tie.Need-write-all-requires Inv-loop μ-loop
 write-all-requires c κs = search needs
 
-returns : tie.Need-returns Inv-loop μ-loop
-returns c = search needs
-
 returns-2 : tie.Need-returns-2 Inv-loop μ-loop
 returns-2 c = search needs
 
+returns-3 : tie.Need-returns-3 Inv-loop μ-loop
+returns-3 c = search needs
+
 loop-less : tie.Need-loop-less Inv-loop μ-loop
-loop-less c = omega (arith, c .before .before .before .before .before .before .mark .ensures .calls-are, c .before .before .before .before .before .before .before .before .before .before .read-full .ensures .1, c .before .if2 .left, c .before .before .before .before .before .before .before .before .before .before .before .before .loop-test .taken)
+loop-less c = omega (arith, c .before .before .before .before .before .before .mark .ensures .calls-are, c .before .before .before .before .before .before .before .before .before .before .before .read-full .ensures .1, c .before .if3 .left, c .before .before .before .before .before .before .before .before .before .before .before .before .before .loop-test .taken)
 
 loop-again : tie.Need-loop-again Inv-loop μ-loop
 loop-again c = c .before .before .before .before .before .before .mark .ensures .valid
 
-returns-3 : tie.Need-returns-3 Inv-loop μ-loop
-returns-3 c = search needs
+returns-4 : tie.Need-returns-4 Inv-loop μ-loop
+returns-4 c = search needs
 
 pub mark-calls-spec : {M : Type 1} → statement M
 mark-calls-spec =
@@ -67,6 +70,7 @@ mark-calls-spec =
     loop-holds
     slice-aggregate-read-full
     read-full-requires
+    returns
     array-share-prefix-calls
     slice-aggregate-mark
     slice-aggregate-mark-2
@@ -74,8 +78,8 @@ mark-calls-spec =
     array-share-prefix-out
     slice-aggregate-write-all
     write-all-requires
-    returns
     returns-2
+    returns-3
     loop-less
     loop-again
-    returns-3)
+    returns-4)

@@ -22,11 +22,11 @@ shared-slice-read-least c = omega (arith, size-fits _ (c .before .before .pre))
 least-requires : tie.Need-least-requires Inv-loop μ-loop
 least-requires c κs = search needs
 
-slice-aggregate-fill : tie.Need-slice-aggregate-fill Inv-loop μ-loop
-slice-aggregate-fill c = refl
+slice-aggregate-fill-each : tie.Need-slice-aggregate-fill-each Inv-loop μ-loop
+slice-aggregate-fill-each c = refl
 
-fill-requires : tie.Need-fill-requires Inv-loop μ-loop
-fill-requires c κs = refl
+fill-each-requires : tie.Need-fill-each-requires Inv-loop μ-loop
+fill-each-requires c κs = refl
 
 word-at-requires : tie.Need-word-at-requires Inv-loop μ-loop
 word-at-requires c κs = omega (arith, size-fits _ (c .before .before .before .pre))
@@ -35,7 +35,7 @@ cast-gained : tie.Need-cast-gained Inv-loop μ-loop
 cast-gained c = record { fits = c .word-at .ensures .1 }
 
 loop-holds : tie.Need-loop-holds Inv-loop μ-loop
-loop-holds c = filled-pending _ (c .before .before .before .before .before .before .before .pre) _ (c .before .before .before .word-at .ensures .0) (c .before .fill .ensures)
+loop-holds c = filled-pending _ (c .before .before .before .before .before .before .before .pre) _ (c .before .before .before .word-at .ensures .0) (c .before .fill-each .ensures)
 
 slice-aggregate-sweep : tie.Need-slice-aggregate-sweep Inv-loop μ-loop
 slice-aggregate-sweep c = sym (c .before .before .loop .inv .sound .sized)
@@ -62,8 +62,8 @@ live-set-spec =
     least-requires
     word-at-requires
     cast-gained
-    slice-aggregate-fill
-    fill-requires
+    slice-aggregate-fill-each
+    fill-each-requires
     loop-holds
     slice-aggregate-sweep
     sweep-requires

@@ -1,5 +1,6 @@
 -- `diagonals::count_row` meets its contract. The invariant: the readings that are not left are stored. The measure is their number as bits. Assumes nothing.
 use Rattle.retimer.proofs.sets.Counting.{Storing, storing-begun, lowest-small, lowest-diagonal, lowest-position, place-inside, storing-more, storing-ended}
+use Rattle.enforcement.specs.Model.{width}
 use Rattle.retimer.specs.Counts.{diagonals}
 use Prim.Native.Nat.{ℕ, _+_, _*_, _-_}
 use mathlib.Core.Path.{ap}
@@ -10,10 +11,10 @@ use Rattle.retimer.proofs.sets.diagonals.count_row.Statement.{statement
 use Rattle.retimer.proofs.sets.diagonals.count_row.Tie as tie
 
 abbrev Inv-loop : tie.InvT-loop
-Inv-loop counts₀ l y ends base second left₀ counts left = Storing counts₀ counts l y ends left
+Inv-loop counts₀ l y gaps base second left₀ counts left = Storing counts₀ counts l y gaps left
 
 abbrev μ-loop : tie.MeasureT-loop
-μ-loop counts₀ l y ends base second left₀ counts left = left
+μ-loop counts₀ l y gaps base second left₀ counts left = left
 
 mul-base : tie.Need-mul-base Inv-loop μ-loop
 mul-base c = search needs
@@ -33,11 +34,14 @@ diagonal-requires c κs = (lowest-small _ _ _ _ _ _ (c .before .loop .inv) (c .l
 add-i : tie.Need-add-i Inv-loop μ-loop
 add-i c = omega (arith, c .diagonal .ensures, lowest-diagonal _ _ _ _ _ _ (c .before .before .loop .inv) (c .before .loop-test .taken) (c .before .before .before .before .pre .1 .0), c .before .before .before .before .pre .0 .1)
 
+cast-counts : tie.Need-cast-counts Inv-loop μ-loop
+cast-counts c = search needs
+
 position-requires : tie.Need-position-requires Inv-loop μ-loop
 position-requires c κs = (lowest-small _ _ _ _ _ _ (c .before .before .loop .inv) (c .before .loop-test .taken), omega (arith, c .before .before .before .before .pre .1 .0))
 
-add-counts : tie.Need-add-counts Inv-loop μ-loop
-add-counts c = omega (arith, c .position .ensures, lowest-position _ _ _ _ _ _ (c .before .before .before .loop .inv) (c .before .before .loop-test .taken) (c .before .before .before .before .before .pre .1 .0))
+sub-counts : tie.Need-sub-counts Inv-loop μ-loop
+sub-counts c = omega (arith, c .position .ensures, lowest-position _ _ _ _ _ _ (c .before .before .before .loop .inv) (c .before .before .loop-test .taken) (c .before .before .before .before .before .pre .1 .0))
 
 slice-write-counts : tie.Need-slice-write-counts Inv-loop μ-loop
 slice-write-counts c = omega (arith, c .before .diagonal .ensures, place-inside _ _ _ _ _ _ (c .before .before .before .loop .inv) (c .before .before .loop-test .taken) (c .before .before .before .before .before .pre .0 .0) (c .before .before .before .before .before .pre .0 .1) (c .before .before .before .before .before .pre .1 .0))
@@ -49,7 +53,7 @@ loop-less : tie.Need-loop-less Inv-loop μ-loop
 loop-less c = omega (arith, and-le-r (c .before .before .before .loop .left) (c .before .before .before .loop .left - 1))
 
 loop-again : tie.Need-loop-again Inv-loop μ-loop
-loop-again c = storing-more _ _ _ _ _ _ (c .before .before .before .loop .inv) (c .before .before .loop-test .taken) _ _ (c .before .before .before .before .before .pre .0 .0) (c .before .before .before .before .before .pre .0 .1) (c .before .before .before .before .before .pre .1 .0) (ap (λ (n : ℕ). c .before .before .before .before .before .args .l * diagonals + n) (c .before .diagonal .ensures)) (ap (λ (n : ℕ). n + 1) (c .position .ensures))
+loop-again c = storing-more _ _ _ _ _ _ (c .before .before .before .loop .inv) (c .before .before .loop-test .taken) _ _ (c .before .before .before .before .before .pre .0 .0) (c .before .before .before .before .before .pre .0 .1) (c .before .before .before .before .before .pre .1 .0) (ap (λ (n : ℕ). c .before .before .before .before .before .args .l * diagonals + n) (c .before .diagonal .ensures)) (ap (λ (n : ℕ). width - n) (c .position .ensures))
 
 same-length : tie.Need-same-length Inv-loop μ-loop
 same-length c = c .before .loop .inv .sized
@@ -69,8 +73,9 @@ count-row-spec =
     cast-x
     diagonal-requires
     add-i
+    cast-counts
     position-requires
-    add-counts
+    sub-counts
     slice-write-counts
     sub-left
     loop-less
