@@ -4,7 +4,7 @@ mod common;
 
 use common::fresh;
 use host::bench::{heaviest, loading, Counter, Figures, Folder, Input, Kind};
-use host::bench::{typical, Measured, Programs, Stop, KINDS, LOADING, WORST};
+use host::bench::{typical, Measured, Programs, Stop, KINDS, LOADING, SHORT, WORST};
 use host::desk::{self, CALL, COLLECTION};
 use host::monitor::{Answer, Monitor};
 use host::runs::{Configuration, Reached};
@@ -20,7 +20,7 @@ const REFERENCE: &str = env!("CARGO_BIN_EXE_reference");
 const FAST: &str = env!("CARGO_BIN_EXE_fast");
 
 fn kind(name: &str) -> &'static Kind {
-    let mut all = KINDS.iter().chain(WORST);
+    let mut all = KINDS.iter().chain(SHORT).chain(WORST);
     all.find(|kind| kind.name == name).expect("the kind exists")
 }
 
@@ -140,6 +140,38 @@ fn long_held_lists() {
     }
 }
 
+/// The collections of an input's calls, as bytes.
+fn collections(input: &Input) -> Vec<u8> {
+    let calls = &input.whole[2 + sheet_bytes(input).len()..];
+    let calls = calls.chunks_exact(CALL);
+    let collections: Vec<&[u8]> = calls.filter(|call| call[0] == COLLECTION).collect();
+    collections.concat()
+}
+
+#[test]
+fn short_lists() {
+    let inputs = kind("two clocks, 2 to 5 commands").inputs(1600);
+    let mut lengths = HashSet::new();
+    for input in &inputs {
+        assert_eq!(automaton(input).clocks, 2);
+        assert!(input.base.ends_with(&collections(input)));
+        assert_eq!(input.whole.len(), input.base.len() + CALL * input.count);
+        for (answer, _) in replay(input) {
+            match answer {
+                Answer::Scheduled { count, .. } => _ = lengths.insert(count),
+                Answer::Held(_) | Answer::Played(_) => {}
+                other => panic!("{other:?}"),
+            }
+        }
+    }
+    assert_eq!(lengths, HashSet::from([2, 3, 4, 5]));
+    let offers: usize = inputs.iter().map(|input| input.count).sum();
+    let tally = tally(&inputs);
+    let scheduled = tally.count("scheduled 2 to 16") as usize;
+    assert!(offers >= 1600 && scheduled * 4 >= offers);
+    assert_eq!(tally.count("played") as usize, offers);
+}
+
 /// The readings capped, so that configurations that act alike are equal.
 fn capped(reached: Reached) -> (u8, [u32; 2]) {
     let Configuration {
@@ -243,6 +275,24 @@ fn worst_offers() {
 }
 
 #[test]
+fn heaviest_plans() {
+    check_largest(&heaviest::dead_locations());
+    for (name, ticks) in [
+        ("many states, scheduled", 30),
+        ("late correction, scheduled", 400),
+        ("worst plan found", 30),
+    ] {
+        let inputs = kind(name).inputs(1);
+        let answers = replay(&inputs[0]);
+        let (Answer::Scheduled { count, last }, 0) = answers[16] else {
+            panic!("{name}: {:?}", answers[16]);
+        };
+        assert_eq!((inputs.len(), answers.len(), count), (1, 17, 17));
+        assert!(last >= ticks, "{name}: {last}");
+    }
+}
+
+#[test]
 fn loading_takes_the_largest_sheets() {
     let largest = loading::sheets();
     let longest = vec![loading::long_way()];
@@ -290,9 +340,12 @@ fn call(arguments: &[&str]) -> Output {
 
 #[test]
 fn wrong_arguments() {
-    let cases: [&[&str]; 6] = [
+    let cases: [&[&str]; 9] = [
         &[],
         &["--instructions"],
+        &["--inputs"],
+        &["--inputs", "/no/such/folder"],
+        &["--inputs", "folder", "other"],
         &["program", "--other"],
         &["program", "other"],
         &["program", "--instructions", "other"],
@@ -302,6 +355,21 @@ fn wrong_arguments() {
         let output = call(arguments);
         assert_eq!(output.status.code(), Some(2), "{arguments:?}");
         assert!(String::from_utf8_lossy(&output.stderr).contains("usage"));
+    }
+}
+
+#[test]
+fn inputs_are_written() {
+    let folder = Path::new(env!("CARGO_TARGET_TMPDIR")).join("bench-inputs");
+    std::fs::create_dir_all(&folder).expect("a folder can be made");
+    let output = call(&["--inputs", &folder.to_string_lossy()]);
+    assert!(output.status.success());
+    for kind in KINDS.iter().chain(SHORT).chain(WORST).chain(LOADING) {
+        for (number, input) in kind.inputs(kind.short).iter().enumerate() {
+            let path = folder.join(format!("{}, {number}", kind.name));
+            let written = std::fs::read(path).expect("the input was written");
+            assert_eq!(written, input.whole);
+        }
     }
 }
 

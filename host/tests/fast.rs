@@ -1,7 +1,7 @@
 //! The box written for speed against the reference, over inputs of every kind
 //! and on the benchmark's heaviest sheets.
 
-use host::bench::{KINDS as HEAVY, LOADING, WORST};
+use host::bench::{KINDS as HEAVY, LOADING, SHORT, WORST};
 use host::desk::{run, run_with};
 use host::fast::Monitor;
 use host::generate::KINDS;
@@ -30,7 +30,7 @@ fn same_lines_for_every_kind() {
 #[test]
 fn same_lines_in_the_benchmark() {
     // The reference is too slow for all calls of some kinds.
-    let heavy = HEAVY.iter().chain(WORST).chain(LOADING);
+    let heavy = HEAVY.iter().chain(SHORT).chain(WORST).chain(LOADING);
     for kind in heavy.filter(|kind| kind.few > 2) {
         for input in kind.inputs(kind.short) {
             same(kind.name, &input.whole);

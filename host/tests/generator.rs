@@ -113,6 +113,51 @@ fn long_two_clocks() {
 }
 
 #[test]
+fn dated_lists() {
+    let least = [
+        ("sheet loaded", SEEDS),
+        ("scheduled 17", 200),
+        ("scheduled 2 to 16", 300),
+        ("held", 6000),
+        ("played", 6000),
+    ];
+    require("dated_lists", &least);
+    assert!(automata("dated_lists").iter().all(|(_, it)| it.clocks == 2));
+}
+
+/// A number of a desk line by its place.
+fn number(line: &str, place: usize) -> Option<usize> {
+    line.split(' ').nth(place)?.parse().ok()
+}
+
+/// The dates that the lines show, and the lengths of the lists they are of.
+fn shown(output: &str) -> (Vec<usize>, Vec<usize>) {
+    let played = output.lines().filter(|line| line.contains(" played "));
+    let scheduled = output.lines().filter(|line| line.contains(" scheduled "));
+    (
+        played.filter_map(|line| number(line, 3)).collect(),
+        scheduled.filter_map(|line| number(line, 2)).collect(),
+    )
+}
+
+#[test]
+fn all_dates_of_long_lists_show() {
+    let kind = kind_named("dated_lists").expect("the kind exists");
+    let (mut long, mut several) = (0, 0);
+    for seed in 0..SEEDS {
+        let (mut dates, lengths) = shown(&desk::run(&kind.input(seed)));
+        assert_eq!(dates.len(), lengths.iter().sum());
+        assert!(lengths.iter().any(|length| *length >= 10));
+        for length in lengths {
+            let list: Vec<usize> = dates.drain(..length).collect();
+            long += usize::from(length >= 10);
+            several += usize::from(length >= 10 && list[0] < list[length - 1]);
+        }
+    }
+    assert!(long >= 700 && several * 10 >= long * 8, "{several} {long}");
+}
+
+#[test]
 fn full_schedule() {
     let least = [
         ("refused S-3", 2000),

@@ -134,6 +134,13 @@ fn long_lists_two_clocks() {
 }
 
 #[test]
+fn dated_lists() {
+    let (found, longest) = check_kind("dated_lists", 60);
+    assert!(found >= 100, "{found}");
+    assert_eq!(longest, 17);
+}
+
+#[test]
 fn two_clocks() {
     let (found, longest) = check_kind("two_clocks", 300);
     assert!(found >= 300 && longest >= 4, "{found} {longest}");

@@ -50,6 +50,7 @@ const EXAMPLE: &str = include_str!("../questions/example.txt");
 const BLOCK: &str = include_str!("../questions/block.txt");
 const TAIL: &str = include_str!("../questions/tail.txt");
 const LARGEST: &str = include_str!("../questions/largest.txt");
+const LONGEST: &str = include_str!("../questions/longest.txt");
 
 /// Questions P1 to P10.
 const KEYED: [&str; 10] = [
@@ -158,6 +159,12 @@ fn file_of_the_example() {
         (COLLECT, 8),
     ];
     assert_eq!(checked(EXAMPLE), input(A, &calls));
+}
+
+#[test]
+fn file_of_the_longest_correction() {
+    let lines = desk::run(&checked(LONGEST));
+    assert!(lines.ends_with("16 held 16 lamp 0\n17 scheduled 17 510 lamp 1\n"));
 }
 
 #[test]

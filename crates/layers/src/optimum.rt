@@ -5,6 +5,13 @@ use retimer::limits::Monitor;
 use retimer::liveness;
 use retimer::optimum;
 use retimer::optimum::Planned;
+use retimer::outlook::Outlook;
+use retimer::reach;
+ghost use mathlib.Core.List.{[], _∷_};
+ghost use Prim.Native.Nat.{_+_};
+ghost use lib.ListN.{replicate};
+ghost use Rattle.enforcement.specs.Limits.{maxCount};
+ghost use Rattle.retimer.specs.Optimum.{Asked};
 
 fn print_dates(dates: &[u32]) {
     let mut i: usize = 0;
@@ -16,14 +23,6 @@ fn print_dates(dates: &[u32]) {
 
 // The ticks, the dates and the configuration reached.
 fn print_plan(p: Planned, dates: &[u32]) {
-    if p.value == optimum::EXTENSIBLE {
-        print::word(b"extensible\n");
-        return;
-    }
-    if p.value == optimum::DEAD {
-        print::word(b"dead\n");
-        return;
-    }
     print::word(b"ticks");
     print::number(p.value as u64);
     print::word(b" dates");
@@ -41,12 +40,18 @@ fn print_reached(p: Planned) {
     }
 }
 
+// Commands that have a correction.
+fn dated<'a>(s: &'a [u8], cs: &'a [u8], l: u8, x: u8, y: u8, t: u32)
+    requires { ⌜ Asked (now s) (now cs) l (x ∷ y ∷ []) t (replicate (maxCount + 1) 0) ⌝ }
+{
+    let mut out = [0u32; Monitor::BATCH];
+    let p = optimum::plan(s, cs, l, [x, y], t, &mut out);
+    print_plan(p, &out[..cs.len()]);
+}
+
 // Commands from a configuration and a date on.
-fn plan(s: &[u8], cs: &[u8], l: u8, x: u8, y: u8, t: u32) {
+fn plan<'a>(s: &'a [u8], cs: &'a [u8], l: u8, x: u8, y: u8, t: u32) {
     if !guarded::stands(s, l, x, y) {
-        return;
-    }
-    if cs.len() == 0 {
         return;
     }
     if Monitor::BATCH < cs.len() {
@@ -57,9 +62,12 @@ fn plan(s: &[u8], cs: &[u8], l: u8, x: u8, y: u8, t: u32) {
     }
     let table = liveness::live_table(s);
     let counts = table.counts;
-    let mut out = [0u32; Monitor::BATCH];
-    let p = optimum::plan(s, &counts, cs, l, [x, y], t, &mut out);
-    print_plan(p, &out[..cs.len()]);
+    let o = reach::outlook_of(s, &counts, cs, l, [x, y]);
+    match o {
+        Outlook::Correct => dated(s, cs, l, x, y, t),
+        Outlook::Extensible => print::word(b"extensible\n"),
+        Outlook::Dead => print::word(b"dead\n"),
+    }
 }
 
 pub fn one_clock() {

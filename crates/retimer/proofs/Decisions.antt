@@ -18,7 +18,7 @@ use Rattle.enforcement.specs.Monitor as model
 use Rattle.retimer.specs.declared.limits.Monitor.{Monitor}
 use Rattle.retimer.specs.declared.optimum.Planned.{Planned}
 use Rattle.retimer.specs.Readings.{waited, located}
-use Rattle.retimer.specs.Optimum.{encode, modelOf, Asked, PlanRight, LampAsked}
+use Rattle.retimer.specs.Optimum.{modelOf, Asked, PlanRight, LampAsked}
 use Rattle.retimer.specs.View.{bytesOf, viewOf, Sound}
 use Rattle.retimer.specs.Calls.{lastAction, newDates, decidedOf, CorrectAsked, PlaceAsked, placedOf}
 use Rattle.retimer.proofs.Valuations.{located-waited, standing-waited}
@@ -43,18 +43,17 @@ earliest-is b t start e = e
 
 -- ---- What is asked of the search and of the lamp
 
-pub plan-asked : (b : Monitor) (t start : ℕ) (here cs ds : List ℕ) → Sound b → t ≤ maxDate → start ≡ max t (b .last) → here ≡ waited (start - b .last) (b .readings) → length cs ≡ maxCount + 1 → length ds ≡ maxCount + 1
-    → Asked (bytesOf b) (b .live) (take (b .held + 1) cs) (b .location) here start ds
-plan-asked b t start here cs ds s h e f n d =
+pub plan-asked : {b : Monitor} {t start : ℕ} {here cs ds : List ℕ} → CorrectAsked b t cs start here → length cs ≡ maxCount + 1 → length ds ≡ maxCount + 1 → Asked (bytesOf b) (take (b .held + 1) cs) (b .location) here start ds
+plan-asked {b} {t} {start} {here} {cs} a n d =
+    let s = a .sound in
     let k : length (take (b .held + 1) cs) ≡ b .held + 1 = length-take-le (b .held + 1) cs (omega (arith, s .held-fits)) in
     record {
       loads = s .loads;
-      table = s .table;
-      some-action = omega arith;
       few = omega (arith, s .held-fits);
-      standing = rw f (standing-waited (bytesOf b) (b .location) (start - b .last) (b .readings) (s .standing));
-      early = omega (arith, s .last-fits);
-      room = d;
+      standing = rw (a .here-is) (standing-waited (bytesOf b) (b .location) (start - b .last) (b .readings) (s .standing));
+      correctable = a .correctable;
+      early = omega (arith, s .last-fits, a .start-is, a .early);
+      room = omega (arith, s .held-fits);
     }
 
 pub lamp-asked : (b : Monitor) (n : ℕ) (here : List ℕ) → Sound b → here ≡ waited n (b .readings) → LampAsked (bytesOf b) (b .live) (b .location) here × (length (take (b .held) (b .pending)) ≤ maxCount)
@@ -133,13 +132,13 @@ module _ (b : Monitor) (c t start : ℕ) (here cs : List ℕ) (w : Worked b c t 
 
     module _ (before ds : List ℕ) (p : Planned) (planned : PlanRight (bytesOf b) (take (b .held + 1) cs) (b .location) here start before ds p) where
       pub value-is : p .value ≡ n
-      value-is = planned .value-is ∙ ap encode e
+      value-is = let f = planned .value-is in (let z : p .value ≡ n = cc in z)
 
       pub value-small : p .value ≤ top * (maxCount + 1)
       value-small = omega (arith, value-is, ends-by, w .sound .held-fits)
 
       dates-as-planned : newDates b ds ≡ dates (modelOf (bytesOf b)) (take (b .held + 1) cs) (located (b .location) here) start
-      dates-as-planned = rw few at (planned .dates-are n e)
+      dates-as-planned = rw few at (planned .dates-are)
 
       dates-are : newDates b ds ≡ dates (modelOf (bytesOf b)) (actionsOf (joins (viewOf b) c)) (standing (viewOf b) t) (earliest (viewOf b) t)
       dates-are =
@@ -148,7 +147,7 @@ module _ (b : Monitor) (c t start : ℕ) (here cs : List ℕ) (w : Worked b c t 
 
       reached-as-planned : located (p .location) (p .readings) ≡ walk (modelOf (bytesOf b) .step) (actionsOf (joins (viewOf b) (lastAction b cs))) (newDates b ds) (earliest (viewOf b) t) (standing (viewOf b) t)
       reached-as-planned =
-          planned .reached n e
+          planned .reached
           ∙ ap₂ (λ (l d : List ℕ). walk (modelOf (bytesOf b) .step) l d start (located (b .location) here)) (actions-are ∙ ap (λ (x : ℕ). actionsOf (joins (viewOf b) x)) (sym last-is)) (sym dates-as-planned)
           ∙ ap₂ (walk (modelOf (bytesOf b) .step) (actionsOf (joins (viewOf b) (lastAction b cs))) (newDates b ds)) (earliest-is b t start (w .start-is)) here-stands
 

@@ -1,5 +1,6 @@
 pub mod Valuations
 pub mod Transitions
+pub mod Left
 pub mod SheetLaws
 pub mod Arrays
 pub mod LocationSets
@@ -11,10 +12,16 @@ pub mod ProspectKinds
 pub mod Played
 pub mod Intervals
 pub mod Ways
+pub mod CostLaws
+pub mod Chains
+pub mod Memos
+pub mod Rules
+pub mod Searching
 pub mod Singles
 pub mod Looking
 pub mod Outlooks
 pub mod Walk
+pub mod Dating
 pub mod Views
 pub mod CallLaws
 pub mod Decisions

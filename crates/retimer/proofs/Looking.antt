@@ -3,31 +3,26 @@
 use mathlib.Core.Path.{_≡_, refl, ap, sym, _∙_, subst}
 use mathlib.Core.Bool.{Bool, true, false, not, false≢true}
 use mathlib.Core.List.{List, [], _∷_}
-use mathlib.Core.Logic.{_⊎_, inl, inr, ⊎-elim, _↔_}
-use Prim.Native.Nat.{ℕ, _+_, _*_, _-_, _≤_, _<_, _/_, _%_}
+use mathlib.Core.Logic.{inr, _↔_}
+use Prim.Native.Nat.{ℕ, _+_, _*_, _≤_, _<_}
 use native.Mathlib.Omega.{arith}
 use lib.Dec.{ltb, eqb}
-use lib.ListN.{length, getD}
+use lib.ListN.{getD}
 use borrow.Author.Tests.{ltb-true, lt-ltb, eqb-true, eqb-false}
-use Rattle.enforcement.specs.Automaton.{Bytes, Transition, accepting, actions, byte, word, locations, offset, size, transitionAt, transitionsFrom, transitions}
-use Rattle.enforcement.specs.Loading.{Loads, Fits, AllFit, Bounded}
+use Rattle.enforcement.specs.Automaton.{Bytes, Transition, accepting, actions, byte, word, transitionAt}
 use Rattle.enforcement.specs.TimedWord.{Configuration, fire}
 use Rattle.enforcement.specs.Model.{prospect}
 use Rattle.enforcement.specs.Monitor.{noneNext}
 use Rattle.enforcement.proofs.Tests.{true-false}
-use Rattle.enforcement.proofs.Pairs.{transitions-known, layout-inside}
-use Rattle.enforcement.proofs.Loading.{layout, bounded}
 use Rattle.retimer.specs.Readings.{waited, resetBy, located, Standing}
 use Rattle.retimer.specs.Optimum.{modelOf, LampAsked}
 use Rattle.retimer.proofs.Valuations.{located-reset, located-waited, standing-waited, standing-fired}
-use Rattle.retimer.proofs.Transitions.{next}
+use Rattle.retimer.proofs.Left.{Left, left-begun, left-fits, left-inside, left-found, left-next, left-passed, left-none}
 use Rattle.retimer.specs.Waits.{firstWait, endWait, along}
 use Rattle.retimer.specs.declared.outlook.Outlook.the-variants.{Correct, Extensible, Dead}
-use Rattle.retimer.specs.Steps.{One}
 use Rattle.retimer.specs.Outlook.{outlookOf, Ends, Lives}
 use Rattle.retimer.proofs.ProspectKinds.{Saturated}
-use Rattle.retimer.specs.Next.{Opens, LeadsLive, LeadsAsked}
-use Rattle.retimer.proofs.Ways.{LeadsFor}
+use Rattle.retimer.specs.Next.{Opens, LeadsFor, LeadsLive, LeadsAsked}
 use Rattle.retimer.proofs.Singles.{LiveIn, EndsFor, NextLives, single-ends, single-lives, next-lives, none-next-finds}
 use Rattle.retimer.proofs.Played.{ends-is, lives-is, dead-is}
 
@@ -61,7 +56,7 @@ none-ended s r t u e q h n = (λ k. absurd (false≢true k), λ w. absurd (n (w 
 
 pub found-live : (s : Bytes) (r : List ℕ) (t : Transition) (u e : ℕ) → e ≡ endWait t (getD r 0 0) (getD r 1 0) → firstWait t (getD r 0 0) (getD r 1 0) ≤ u → u < e → modelOf s .live (fire t (along (getD r 0 0) (getD r 1 0) 0 u)) ≡ true
     → (true ≡ true) ↔ LeadsLive s r t
-found-live s r t u e q h k g = (λ _. record { wait = u; opened = h; open-still = omega arith; good = g }, λ _. refl)
+found-live s r t u e q h k g = (λ _. record { wait = u; reached = omega arith; opened = h; open-still = omega arith; good = g }, λ _. refl)
 
 -- The readings after a wait and the transition at p, as the code has them.
 module _ (s : Bytes) (live : List ℕ) (p : ℕ) (r : List ℕ) (a : LeadsAsked s live p r) (u : ℕ) (v q : List ℕ) (e : v ≡ waited u r) (f : q ≡ resetBy (byte s (p + 2)) v) where
@@ -74,73 +69,6 @@ module _ (s : Bytes) (live : List ℕ) (p : ℕ) (r : List ℕ) (a : LeadsAsked 
   pub fired-live : modelOf s .live (located (byte s (p + 1)) q) ≡ modelOf s .live (fire (transitionAt s p) (along (getD r 0 0) (getD r 1 0) 0 u))
   fired-live = ap (λ (o : Configuration). modelOf s .live o) (ap (located (byte s (p + 1))) (f ∙ ap (resetBy (byte s (p + 2))) e) ∙ located-reset (transitionAt s p) 0 (waited u r) ∙ ap (fire (transitionAt s p)) (located-waited 0 u r))
 
--- ---- The places of a location's transitions
-
--- The transitions at places p up to e are left to look at: W holds just when A does, which was found, or Q of one of them.
-pub record Left (s : Bytes) (W A : Type 0) (Q : Transition → Type 0) (p e : ℕ) : Type 0 where
-  pub before : p ≤ e
-  pub inside : e ≤ length s
-  pub whole : (e - p) % 7 ≡ 0
-  pub fit : AllFit s (transitionsFrom s ((e - p) / 7) p)
-  pub same : W ↔ (A ⊎ One Q (transitionsFrom s ((e - p) / 7) p))
-
--- Where a location's transitions lie, as the code reads it: w for the location, v for the offset and n for the size.
-pub left-begun : (s : Bytes) (W A : Type 0) (Q : Transition → Type 0) (l w v n : ℕ) → Loads s → l < locations s → w ≡ l → v ≡ word s (6 + 4 * w) → n ≡ word s (6 + 4 * w + 2) → (A → ⊥) → W ↔ One Q (transitions s l) → Left s W A Q v (v + n)
-unfolding Bounded
-left-begun s W A Q l w v n loads k d e f z g =
-    let a : v ≡ offset s l = e ∙ ap (λ (i : ℕ). word s (6 + 4 * i)) d in
-    let m : 6 + 4 * w + 2 ≡ 8 + 4 * l = omega arith in
-    let b : n ≡ size s l = f ∙ ap (word s) m in
-    let i : (v + n - v) / 7 ≡ size s l / 7 = omega arith in
-    let all : transitions s l ≡ transitionsFrom s ((v + n - v) / 7) v = transitions-known s l k ∙ rw (i, a) refl in
-    record {
-      before = omega arith;
-      inside = omega (arith, layout-inside s (layout s loads) l k);
-      whole = omega (arith, layout s loads .whole l k);
-      fit = subst (AllFit s) all (bounded s loads l);
-      same = subst (λ (ts : List Transition). W ↔ (A ⊎ One Q ts)) all (λ x. inr (g .0 x), λ x. ⊎-elim (λ y. absurd (z y)) (λ y. g .1 y) x);
-    }
-
-module _ {s : Bytes} {W A : Type 0} {Q : Transition → Type 0} {p e : ℕ} (m : Left s W A Q p e) where
-  here-fit : p < e → AllFit s (transitionAt s p ∷ transitionsFrom s ((e - (p + 7)) / 7) (p + 7))
-  here-fit h = rw (next s p e h (m .whole)) at (m .fit)
-
-  here-same : p < e → W ↔ (A ⊎ One Q (transitionAt s p ∷ transitionsFrom s ((e - (p + 7)) / 7) (p + 7)))
-  here-same h = subst (λ (ts : List Transition). W ↔ (A ⊎ One Q ts)) (next s p e h (m .whole)) (m .same)
-
-  pub left-fits : p < e → Fits s (transitionAt s p)
-  left-fits h = here-fit h .0
-
-  pub left-inside : p < e → p + 7 ≤ length s
-  left-inside h = omega (arith, m .inside, m .whole)
-
-  pub left-found : p < e → Q (transitionAt s p) → W
-  left-found h q = here-same h .1 (inr (inl q))
-
-  -- The one at p was looked at: B holds just when it, or A, does.
-  pub left-next : {B : Type 0} → p < e → B ↔ (A ⊎ Q (transitionAt s p)) → Left s W B Q (p + 7) e
-  left-next h b =
-      let w = here-same h in
-      record {
-        before = omega (arith, m .before, m .whole);
-        inside = m .inside;
-        whole = omega (arith, m .whole);
-        fit = here-fit h .1;
-        same = (
-          λ x. ⊎-elim (λ y. inl (b .1 (inl y))) (λ y. ⊎-elim (λ z. inl (b .1 (inr z))) (λ z. inr z) y) (w .0 x),
-          λ x. w .1 (⊎-elim (λ y. ⊎-elim (λ z. inl z) (λ z. inr (inl z)) (b .0 y)) (λ y. inr (inr y)) x),
-        );
-      }
-
-  pub left-passed : p < e → (Q (transitionAt s p) → ⊥) → Left s W A Q (p + 7) e
-  left-passed h z = left-next h (λ x. inl x, λ x. ⊎-elim (λ y. y) (λ y. absurd (z y)) x)
-
-  pub left-none : e ≤ p → W ↔ A
-  left-none h =
-      let i : (e - p) / 7 ≡ 0 = omega arith in
-      let w : W ↔ (A ⊎ One Q []) = subst (λ (n : ℕ). W ↔ (A ⊎ One Q (transitionsFrom s n p))) i (m .same) in
-      (λ x. ⊎-elim (λ y. y) (λ y. absurd y) (w .0 x), λ x. w .1 (inl x))
-
 -- What is asked for the transition at p.
 pub left-asked : {s live : List ℕ} {l : ℕ} {r : List ℕ} {W A : Type 0} {Q : Transition → Type 0} {p e : ℕ} → LampAsked s live l r → Left s W A Q p e → p < e → LeadsAsked s live p r
 left-asked a m h = record { table = a .table; inside = left-inside m h; fits = left-fits m h; valuation = record { readings = a .standing .readings; one-clock = a .standing .one-clock } }
@@ -150,14 +78,14 @@ left-asked a m h = record { table = a .table; inside = left-inside m h; fits = l
 -- The transitions at places p up to e are left: none before them ends the action c, and `found` says whether one leads to a live configuration.
 pub record Looking (s : Bytes) (c l : ℕ) (r : List ℕ) (found : Bool) (p e : ℕ) : Type 0 where
   pub ends : Left s (Ends (prospect (modelOf s) (c ∷ []) (located l r))) ⊥ (EndsFor s c (getD r 0 0) (getD r 1 0)) p e
-  pub lives : Left s (Lives (prospect (modelOf s) (c ∷ []) (located l r))) (found ≡ true) (LeadsFor c (LiveIn s) (getD r 0 0) (getD r 1 0)) p e
+  pub lives : Left s (Lives (prospect (modelOf s) (c ∷ []) (located l r))) (found ≡ true) (LeadsFor c (LiveIn s) (getD r 0 0) (getD r 1 0) 0) p e
 
 pub looking-begun : (s live : List ℕ) (c l : ℕ) (r : List ℕ) (w v n : ℕ) → LampAsked s live l r → w ≡ l → v ≡ word s (6 + 4 * w) → n ≡ word s (6 + 4 * w + 2) → Looking s c l r false v (v + n)
 looking-begun s live c l r w v n a d e f =
     let h : Saturated (located l r) = (a .standing .readings .first, a .standing .readings .second) in
     record {
       ends = left-begun s (Ends (prospect (modelOf s) (c ∷ []) (located l r))) ⊥ (EndsFor s c (getD r 0 0) (getD r 1 0)) l w v n (a .loads) (a .standing .in-sheet) d e f (λ z. z) (single-ends s (a .loads) (located l r) h c);
-      lives = left-begun s (Lives (prospect (modelOf s) (c ∷ []) (located l r))) (false ≡ true) (LeadsFor c (LiveIn s) (getD r 0 0) (getD r 1 0)) l w v n (a .loads) (a .standing .in-sheet) d e f false≢true (single-lives s (a .loads) (located l r) h c);
+      lives = left-begun s (Lives (prospect (modelOf s) (c ∷ []) (located l r))) (false ≡ true) (LeadsFor c (LiveIn s) (getD r 0 0) (getD r 1 0) 0) l w v n (a .loads) (a .standing .in-sheet) d e f false≢true (single-lives s (a .loads) (located l r) h c);
     }
 
 module _ {s : Bytes} {c l : ℕ} {r : List ℕ} {found : Bool} {p e : ℕ} (m : Looking s c l r found p e) where

@@ -20,11 +20,11 @@ use Rattle.retimer.specs.Waits.{firstWait, endWait, along}
 use Rattle.retimer.specs.Steps.{One}
 use Rattle.retimer.specs.Outlook.{Ends, Lives}
 use Rattle.retimer.proofs.ProspectKinds.{Saturated, ends-kind, lives-kind}
-use Rattle.retimer.specs.Next.{Leads}
+use Rattle.retimer.specs.Next.{Leads, LeadsFor}
 use Rattle.retimer.proofs.Valuations.{cond-most}
 use Rattle.retimer.proofs.Taking.{one-map}
 use Rattle.retimer.proofs.Played.{ends-nil, lives-nil}
-use Rattle.retimer.proofs.Ways.{LeadsFor, prospect-leads}
+use Rattle.retimer.proofs.Ways.{leads-map, kind-leads}
 
 -- ---- One transition
 
@@ -32,12 +32,9 @@ use Rattle.retimer.proofs.Ways.{LeadsFor, prospect-leads}
 fired-saturated : (t : Transition) (x y u : ℕ) → Saturated (fire t (along x y 0 u))
 fired-saturated t x y u = (cond-most (bit (t .resets) 0) (min (x + u) top) top (omega arith), cond-most (bit (t .resets) 1) (min (y + u) top) top (omega arith))
 
-pub leads-map : {G H : Configuration → Type 0} {x y : ℕ} {t : Transition} → ((u : ℕ) → G (fire t (along x y 0 u)) → H (fire t (along x y 0 u))) → Leads G x y t → Leads H x y t
-leads-map f w = record { wait = w .wait; opened = w .opened; open-still = w .open-still; good = f (w .wait) (w .good) }
-
 -- A configuration that is live.
-abbrev pub LiveIn : Bytes → Configuration → Type 0
-LiveIn s q = modelOf s .live q ≡ true
+abbrev pub LiveIn : Bytes → ℕ → Configuration → Type 0
+LiveIn s u q = modelOf s .live q ≡ true
 
 -- A transition for the action c is enabled after some wait and has an accepting target.
 abbrev pub EndsFor : Bytes → ℕ → ℕ → ℕ → Transition → Type 0
@@ -50,17 +47,17 @@ module _ (s : Bytes) (loads : Loads s) (p : Configuration) (h : Saturated p) whe
   pub single-ends : (c : ℕ) → Ends (prospect (modelOf s) (c ∷ []) p) ↔ One (EndsFor s c (p .x) (p .y)) (transitions s (p .location))
   unfolding Bounded
   single-ends c =
-      let w = prospect-leads Ends ends-kind s loads c [] p h in
+      let w = kind-leads Ends ends-kind s loads c [] p h in
       let fit = bounded s loads (p .location) in (
         λ m. one-map (transitions s (p .location)) fit (λ t f v. ((v .0, omega (arith, v .1 .opened, v .1 .open-still)), ends-nil s (fire t (along (p .x) (p .y) 0 (v .1 .wait))) .0 (v .1 .good))) (w .0 m),
-        λ m. w .1 (one-map (transitions s (p .location)) fit (λ t f v. (v .0 .0, record { wait = firstWait t (p .x) (p .y); opened = omega arith; open-still = v .0 .1; good = ends-nil s (fire t (along (p .x) (p .y) 0 (firstWait t (p .x) (p .y)))) .1 (v .1) })) m),
+        λ m. w .1 (one-map (transitions s (p .location)) fit (λ t f v. (v .0 .0, record { wait = firstWait t (p .x) (p .y); reached = omega arith; opened = omega arith; open-still = v .0 .1; good = ends-nil s (fire t (along (p .x) (p .y) 0 (firstWait t (p .x) (p .y)))) .1 (v .1) })) m),
       )
 
   -- It is not dead just when a transition for it leads, after some wait, to a live configuration.
-  pub single-lives : (c : ℕ) → Lives (prospect (modelOf s) (c ∷ []) p) ↔ One (LeadsFor c (LiveIn s) (p .x) (p .y)) (transitions s (p .location))
+  pub single-lives : (c : ℕ) → Lives (prospect (modelOf s) (c ∷ []) p) ↔ One (LeadsFor c (LiveIn s) (p .x) (p .y) 0) (transitions s (p .location))
   unfolding Bounded
   single-lives c =
-      let w = prospect-leads Lives lives-kind s loads c [] p h in
+      let w = kind-leads Lives lives-kind s loads c [] p h in
       let fit = bounded s loads (p .location) in (
         λ m. one-map (transitions s (p .location)) fit (λ t f v. (v .0, leads-map (λ u g. lives-nil s loads (fire t (along (p .x) (p .y) 0 u)) (fired-saturated t (p .x) (p .y) u) .0 g) (v .1))) (w .0 m),
         λ m. w .1 (one-map (transitions s (p .location)) fit (λ t f v. (v .0, leads-map (λ u g. lives-nil s loads (fire t (along (p .x) (p .y) 0 u)) (fired-saturated t (p .x) (p .y) u) .1 g) (v .1))) m),
@@ -97,7 +94,7 @@ none-next-finds m p (suc n) = go (isDead (prospect m (n ∷ []) p)) refl (noneNe
     go false e b f = record { passes = λ k. let z : _≡_ {A = ℕ} 0 1 = cc in absurd (omega arith); fails = λ k. (n, omega arith, not-dead (prospect m (n ∷ []) p) e) }
 
 -- Some next action is not dead just when a transition leads, after some wait, to a live configuration.
-pub next-lives : (s : Bytes) → Loads s → (p : Configuration) → Saturated p → NextLives (modelOf s) p (actions s) ↔ One (Leads (LiveIn s) (p .x) (p .y)) (transitions s (p .location))
+pub next-lives : (s : Bytes) → Loads s → (p : Configuration) → Saturated p → NextLives (modelOf s) p (actions s) ↔ One (Leads (LiveIn s) (p .x) (p .y) 0) (transitions s (p .location))
 unfolding Bounded
 next-lives s loads p h = (
   λ w. one-map (transitions s (p .location)) fit (λ t f v. v .1) (single-lives s loads p h (w .0) .0 (w .2)),
@@ -108,7 +105,7 @@ next-lives s loads p h = (
     fit = bounded s loads (p .location)
 
     -- The action of one that leads there.
-    one-keep : (ts : List Transition) → AllFit s ts → One (Leads (LiveIn s) (p .x) (p .y)) ts → (c : ℕ) × (c < actions s) × One (LeadsFor c (LiveIn s) (p .x) (p .y)) ts
+    one-keep : (ts : List Transition) → AllFit s ts → One (Leads (LiveIn s) (p .x) (p .y) 0) ts → (c : ℕ) × (c < actions s) × One (LeadsFor c (LiveIn s) (p .x) (p .y) 0) ts
     one-keep [] a w = absurd w
     one-keep (t ∷ ts) a (inl w) = (t .action, a .0 .action-fits, inl (refl, w))
     one-keep (t ∷ ts) a (inr w) = let r = one-keep ts (a .1) w in (r .0, r .1, inr (r .2))

@@ -17,19 +17,17 @@ use Rattle.enforcement.specs.Model.{top, advance, headroom, Prospect, ticks, ex
 use Rattle.enforcement.specs.Monitor.{walk, walkOn}
 use Rattle.enforcement.proofs.Saturation.{Steps, configuration-path}
 use Rattle.enforcement.proofs.Equations.{prospect-cons, prospect-top, prospect-next, dates-nil, dates-cons, dates-now, dates-later, dates-top}
-use Rattle.retimer.specs.declared.lookup.Stepped.{Stepped}
 use Rattle.retimer.specs.declared.optimum.Reached.{Reached}
 use Rattle.retimer.specs.Readings.{Readings, waited, located, Standing}
-use Rattle.retimer.specs.Steps.{StepRight}
-use Rattle.retimer.specs.Optimum.{encode, modelOf, PlanRight}
-use Rattle.retimer.specs.Search.{leftAt, playedNow, Written}
+use Rattle.retimer.specs.Optimum.{modelOf}
+use Rattle.retimer.specs.Dates.{leftAt, playedNow, Written}
 use Rattle.retimer.proofs.Valuations.{located-waited}
-use Rattle.retimer.proofs.Prospects.{left-some, stepped-some, stepped-found, played-some}
+use Rattle.retimer.proofs.Prospects.{left-some}
 
 -- A configuration with saturated readings.
-pub record Saturated (p : Configuration) : Type 0 where
-  pub first : p .x ≤ top
-  pub second : p .y ≤ top
+record Saturated (p : Configuration) : Type 0 where
+  first : p .x ≤ top
+  second : p .y ≤ top
 
 advance-in : (p : Configuration) → Saturated (advance 1 p)
 advance-in p = record { first = omega arith; second = omega arith }
@@ -53,7 +51,7 @@ keeps-same n extensible e = refl
 keeps-same n dead e = refl
 
 -- The second is chosen where the first is another number.
-other : (a b : Prospect) (n : ℕ) → better a (later b) ≡ ticks n → (encode a ≡ n → ⊥) → (keeps a (later b) ≡ false) × ((1 ≤ n) × (b ≡ ticks (n - 1)))
+other : (a b : Prospect) (n : ℕ) → better a (later b) ≡ ticks n → (a ≡ ticks n → ⊥) → (keeps a (later b) ≡ false) × ((1 ≤ n) × (b ≡ ticks (n - 1)))
 other a b n e f = go (keeps a (later b)) refl e
   where
     less : (c : Prospect) → later c ≡ ticks n → (1 ≤ n) × (c ≡ ticks (n - 1))
@@ -62,14 +60,14 @@ other a b n e f = go (keeps a (later b)) refl e
     less dead x = let z : _≡_ {A = ℕ} 0 1 = cc in absurd (omega arith)
 
     go : (t : Bool) → keeps a (later b) ≡ t → cond t a (later b) ≡ ticks n → (keeps a (later b) ≡ false) × ((1 ≤ n) × (b ≡ ticks (n - 1)))
-    go true x y = absurd (f (ap encode y))
+    go true x y = absurd (f y)
     go false x y = (x, less b y)
 
 -- ---- Dates
 
 module _ (m : Compiled) (c : ℕ) (cs : List ℕ) (p : Configuration) (h : Saturated p) where
   -- Played now.
-  pub dates-played : (n d : ℕ) → prospect m (c ∷ cs) p ≡ ticks n → afterStep (m .step c p) (prospect m cs) ≡ ticks n → dates m (c ∷ cs) p d ≡ d ∷ datesAfter (m .step c p) (λ (q : Configuration). dates m cs q d)
+  dates-played : (n d : ℕ) → prospect m (c ∷ cs) p ≡ ticks n → afterStep (m .step c p) (prospect m cs) ≡ ticks n → dates m (c ∷ cs) p d ≡ d ∷ datesAfter (m .step c p) (λ (q : Configuration). dates m cs q d)
   dates-played n d e f = go (eqb (p .x + p .y) (2 * top)) refl
     where
       go : (t : Bool) → eqb (p .x + p .y) (2 * top) ≡ t → dates m (c ∷ cs) p d ≡ d ∷ datesAfter (m .step c p) (λ (q : Configuration). dates m cs q d)
@@ -83,23 +81,23 @@ module _ (m : Compiled) (c : ℕ) (cs : List ℕ) (p : Configuration) (h : Satur
           (keeps-same n b (subst (λ (a : Prospect). better a b ≡ ticks n) f (sym (prospect-next m c cs p (h .first) (h .second) low) ∙ e))))
 
   -- Not both readings are saturated where playing now does not keep the least ticks.
-  pub not-top : (n : ℕ) → prospect m (c ∷ cs) p ≡ ticks n → (encode (afterStep (m .step c p) (prospect m cs)) ≡ n → ⊥) → p .x + p .y ≡ 2 * top → ⊥
-  not-top n e f z = f (ap encode (sym (prospect-top m c cs p (omega (arith, h .first, h .second)) (omega (arith, h .first, h .second))) ∙ e))
+  not-top : (n : ℕ) → prospect m (c ∷ cs) p ≡ ticks n → (afterStep (m .step c p) (prospect m cs) ≡ ticks n → ⊥) → p .x + p .y ≡ 2 * top → ⊥
+  not-top n e f z = f (sym (prospect-top m c cs p (omega (arith, h .first, h .second)) (omega (arith, h .first, h .second))) ∙ e)
 
-  module _ (n : ℕ) (e : prospect m (c ∷ cs) p ≡ ticks n) (f : encode (afterStep (m .step c p) (prospect m cs)) ≡ n → ⊥) where
+  module _ (n : ℕ) (e : prospect m (c ∷ cs) p ≡ ticks n) (f : afterStep (m .step c p) (prospect m cs) ≡ ticks n → ⊥) where
     low : min (p .x) (p .y) < top
     low = let z = not-top n e f in omega (arith, h .first, h .second)
 
     waited-other : (keeps (afterStep (m .step c p) (prospect m cs)) (later (prospect m (c ∷ cs) (advance 1 p))) ≡ false) × ((1 ≤ n) × (prospect m (c ∷ cs) (advance 1 p) ≡ ticks (n - 1)))
     waited-other = other (afterStep (m .step c p) (prospect m cs)) (prospect m (c ∷ cs) (advance 1 p)) n (sym (prospect-next m c cs p (h .first) (h .second) low) ∙ e) f
 
-    pub waited-some : 1 ≤ n
+    waited-some : 1 ≤ n
     waited-some = waited-other .1 .0
 
-    pub waited-least : prospect m (c ∷ cs) (advance 1 p) ≡ ticks (n - 1)
+    waited-least : prospect m (c ∷ cs) (advance 1 p) ≡ ticks (n - 1)
     waited-least = waited-other .1 .1
 
-    pub dates-waited : (d : ℕ) → dates m (c ∷ cs) p d ≡ dates m (c ∷ cs) (advance 1 p) (suc d)
+    dates-waited : (d : ℕ) → dates m (c ∷ cs) p d ≡ dates m (c ∷ cs) (advance 1 p) (suc d)
     dates-waited d = dates-later m c cs p d (h .first) (h .second) low (waited-other .0)
 
 -- ---- Where the dates lead
@@ -150,7 +148,7 @@ walk-first st c cs ds p d w = rw (w .are) (go (ap (st c) (sym (advance-more p d 
     go : {a b : Option Configuration} {q : Configuration} → a ≡ some q → b ≡ some q → walkOn a (λ (z : Configuration). walk st cs (w .others) (w .date) z) p ≡ walkOn b (λ (z : Configuration). walk st cs (w .others) (w .date) z) (advance 1 p)
     go x y = rw (x, y)
 
-pub walk-waited : (m : Compiled) (c : ℕ) (cs : List ℕ) (p : Configuration) (d n : ℕ) → prospect m (c ∷ cs) (advance 1 p) ≡ ticks n
+walk-waited : (m : Compiled) (c : ℕ) (cs : List ℕ) (p : Configuration) (d n : ℕ) → prospect m (c ∷ cs) (advance 1 p) ≡ ticks n
     → walk (m .step) (c ∷ cs) (dates m (c ∷ cs) (advance 1 p) (suc d)) d p ≡ walk (m .step) (c ∷ cs) (dates m (c ∷ cs) (advance 1 p) (suc d)) (suc d) (advance 1 p)
 walk-waited m c cs p d n e =
     walk-first (m .step) c cs (dates m (c ∷ cs) (advance 1 p) (suc d)) p d
@@ -158,7 +156,7 @@ walk-waited m c cs p d n e =
     (first (m .step) c (prospect m cs) (dates m cs) (headroom (advance 1 p)) (advance 1 p) (suc d) n (advance-in p) (sym (prospect-cons m c cs (advance 1 p)) ∙ e)))
 
 -- Walking along a date that is now.
-pub walk-played : (st : Steps) (c : ℕ) (cs ds : List ℕ) (p q : Configuration) (d : ℕ) → Saturated p → st c p ≡ some q → walk st (c ∷ cs) (d ∷ ds) d p ≡ walk st cs ds d q
+walk-played : (st : Steps) (c : ℕ) (cs ds : List ℕ) (p q : Configuration) (d : ℕ) → Saturated p → st c p ≡ some q → walk st (c ∷ cs) (d ∷ ds) d p ≡ walk st cs ds d q
 unfolding walk
 walk-played st c cs ds p q d h e = go (ap (st c) (advance-none p d h) ∙ e)
   where
@@ -166,10 +164,6 @@ walk-played st c cs ds p q d h e = go (ap (st c) (advance-none p d h) ∙ e)
     go x = rw x
 
 -- ---- By the actions played
-
--- What is worked out is another number, under its other name too.
-pub other-than : {a b c : ℕ} → (a ≡ b → ⊥) → a ≡ c → c ≡ b → ⊥
-other-than h e f = h (e ∙ f)
 
 saturated-at : {r : List ℕ} (l : ℕ) → Readings r → Saturated (located l r)
 saturated-at l h = record { first = h .first; second = h .second }
@@ -192,35 +186,32 @@ module _ (s : Bytes) (cs : List ℕ) (k l : ℕ) (r : List ℕ) where
 
   module _ (some-left : k < length cs) (h : Readings r) (n : ℕ) (least : leftAt s cs k here ≡ ticks n) where
     is-some : drop k cs ≡ getD cs k 0 ∷ drop (k + 1) cs
-    is-some = left-some s cs k some-left
+    is-some = left-some cs k some-left
 
     least-some : prospect (modelOf s) (getD cs k 0 ∷ drop (k + 1) cs) here ≡ ticks n
     least-some = ap (λ (z : List ℕ). prospect (modelOf s) z here) (sym is-some) ∙ least
 
-    -- The action is played now.
-    module _ (t : ℕ) (v : Stepped) (step-right : StepRight s (getD cs k 0) l r v) (now : playedNow s cs k here ≡ ticks n) where
-      found : modelOf s .step (getD cs k 0) here ≡ some (located (v .location) (v .readings))
-      found = stepped-some s cs k l r v step-right (stepped-found s cs k l r v step-right n now)
+    -- The action is played now, and leads to the location u with the readings w.
+    module _ (t u : ℕ) (w : List ℕ) (found : modelOf s .step (getD cs k 0) here ≡ some (located u w)) (now : playedNow s cs k here ≡ ticks n) where
+      pub left-after : leftAt s cs (k + 1) (located u w) ≡ ticks n
+      left-after = ap (λ (o : Option Configuration). afterStep o (prospect (modelOf s) (drop (k + 1) cs))) (sym found) ∙ now
 
-      pub left-after : leftAt s cs (k + 1) (located (v .location) (v .readings)) ≡ ticks n
-      left-after = played-some s cs k l r v step-right (stepped-found s cs k l r v step-right n now) ∙ now
-
-      dates-here : dates (modelOf s) (drop k cs) here t ≡ t ∷ dates (modelOf s) (drop (k + 1) cs) (located (v .location) (v .readings)) t
+      dates-here : dates (modelOf s) (drop k cs) here t ≡ t ∷ dates (modelOf s) (drop (k + 1) cs) (located u w) t
       dates-here =
           ap (λ (z : List ℕ). dates (modelOf s) z here t) is-some ∙ dates-played (modelOf s) (getD cs k 0) (drop (k + 1) cs) here (saturated-at l h) n t least-some now
           ∙ ap (λ (o : Option Configuration). t ∷ datesAfter o (λ (q : Configuration). dates (modelOf s) (drop (k + 1) cs) q t)) found
 
-      pub written-played : (before out : List ℕ) (q : Reached) → k < length before → Written s cs (k + 1) (v .location) (v .readings) t (set before k t) out q → Written s cs k l r t before out q
-      written-played before out q room w =
+      pub written-played : (before out : List ℕ) (q : Reached) → k < length before → Written s cs (k + 1) u w t (set before k t) out q → Written s cs k l r t before out q
+      written-played before out q room z =
           record {
-            dates-are = w .dates-are ∙ rw (add-one, take-suc-set before k t room, append-assoc, ← add-one, dates-here);
-            rest-kept = w .rest-kept ∙ drop-set-lt (length cs) before k t some-left;
-            reached = w .reached ∙ sym (rw (dates-here, is-some) (walk-played (modelOf s .step) (getD cs k 0) (drop (k + 1) cs) (dates (modelOf s) (drop (k + 1) cs) (located (v .location) (v .readings)) t) here (located (v .location) (v .readings)) t (saturated-at l h) found));
-            standing = w .standing;
+            dates-are = z .dates-are ∙ rw (add-one, take-suc-set before k t room, append-assoc, ← add-one, dates-here);
+            rest-kept = z .rest-kept ∙ drop-set-lt (length cs) before k t some-left;
+            reached = z .reached ∙ sym (rw (dates-here, is-some) (walk-played (modelOf s .step) (getD cs k 0) (drop (k + 1) cs) (dates (modelOf s) (drop (k + 1) cs) (located u w) t) here (located u w) t (saturated-at l h) found));
+            standing = z .standing;
           }
 
     -- Playing now does not keep the least ticks: a tick passes.
-    module _ (w : List ℕ) (is-waited : w ≡ waited 1 r) (not-now : encode (playedNow s cs k here) ≡ n → ⊥) where
+    module _ (w : List ℕ) (is-waited : w ≡ waited 1 r) (not-now : playedNow s cs k here ≡ ticks n → ⊥) where
       located-later : located l w ≡ advance 1 here
       located-later = ap (located l) is-waited ∙ located-waited l 1 r
 
@@ -247,8 +238,3 @@ module _ (s : Bytes) (cs : List ℕ) (k l : ℕ) (r : List ℕ) where
             reached = z .reached ∙ walk-late t ∙ ap (λ (ds : List ℕ). walk (modelOf s .step) (drop k cs) ds t here) (dates-late t);
             standing = z .standing;
           }
-
--- The dates of all the actions are the plan.
-pub plan-some : (s : Bytes) (cs : List ℕ) (l : ℕ) (r : List ℕ) (t : ℕ) (before out : List ℕ) (v : ℕ) (q : Reached) → prospect (modelOf s) cs (located l r) ≡ ticks v → Written s cs 0 l r t before out q
-    → PlanRight s cs l r t before out (record { value = v; location = q .location; readings = q .readings })
-plan-some s cs l r t before out v q least w = record { value-is = sym (ap encode least); stays = λ f. absurd (f v least); dates-are = λ n e. w .dates-are; rest-kept = w .rest-kept; reached = λ n e. w .reached; standing = w .standing }

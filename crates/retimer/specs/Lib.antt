@@ -10,9 +10,11 @@ pub mod Counts
 pub mod Meeting
 pub mod Live
 pub mod Optimum
-pub mod Search
 pub mod Waits
 pub mod Next
+pub mod Costs
+pub mod Chains
+pub mod Dates
 pub mod Outlook
 pub mod View
 pub mod Calls

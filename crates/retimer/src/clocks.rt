@@ -9,7 +9,7 @@ ghost use Rattle.enforcement.specs.Model.{top};
 ghost use Rattle.retimer.specs.Readings.{Readings, waited, resetBy};
 
 // A reading n ticks later.
-fn later(x: u8, n: u32) -> u8
+pub fn later(x: u8, n: u32) -> u8
     requires { ⌜ x ≤ top ⌝ }
     ensures { λ v. ⌜ v ≡ min (x + n) top ⌝ }
 {

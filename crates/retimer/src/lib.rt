@@ -27,11 +27,14 @@ pub mod sets;
 // From where an accepting location can still be reached.
 pub mod liveness;
 
-// The least ticks for a list of actions, and their dates.
-pub mod optimum;
-
 // The waits at which a transition is enabled.
 pub mod waits;
+
+// The least ticks of a list of actions.
+mod costs;
+
+// The dates of a list of actions that has a correction.
+pub mod optimum;
 
 // What the next action comes to.
 pub mod outlook;

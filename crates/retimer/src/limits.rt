@@ -38,10 +38,8 @@ impl Monitor {
     pub const SIZE: usize = 6 + 4 * Monitor::COUNT + 7 * Monitor::TRANSITIONS;
     // Readings from here on act alike.
     pub const TOP: u8 = Monitor::BOUND + 1;
-    // How many readings and valuations there are.
+    // How many readings there are.
     pub const WIDTH: usize = Monitor::BOUND as usize + 2;
-
-    pub const VALUATIONS: usize = Monitor::WIDTH * Monitor::WIDTH;
     // Places for the diagonals of a location's valuations, and for those of all locations.
     pub const DIAGONALS: usize = 2 * Monitor::WIDTH;
 

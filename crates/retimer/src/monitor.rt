@@ -229,11 +229,10 @@ impl Monitor {
         let location = self.location;
         let mut ds = [0u32; Monitor::BATCH];
         let s: &[u8] = &self.bytes;
-        let live: &[u8] = &self.live;
+        let list: &[u8] = &cs;
         let p = optimum::plan(
             &s[..size],
-            live,
-            &cs[..held + 1],
+            &list[..held + 1],
             location,
             here,
             start,

@@ -1,29 +1,18 @@
-// The least ticks for a list of actions, and their dates.
-use crate::bytes;
+// The dates of a list of actions that has a correction: the least ticks, and each action as soon as that keeps them.
 use crate::clocks;
+use crate::costs;
 use crate::limits::Monitor;
-use crate::liveness;
 use crate::lookup;
 ghost use mathlib.Core.Path.{_≡_};
-ghost use mathlib.Core.List.{[]};
-ghost use Prim.Native.Nat.{_+_, _*_, _≤_, _<_, min};
-ghost use lib.Dec.{eqb};
-ghost use lib.ListN.{length, getD};
-ghost use Rattle.enforcement.specs.Limits.{maxCount};
-ghost use Rattle.enforcement.specs.Automaton.{clocks};
-ghost use Rattle.enforcement.specs.Loading.{Loads};
-ghost use Rattle.enforcement.specs.Model.{top, ticks, dead, prospect};
-ghost use Rattle.retimer.specs.Readings.{Readings, located, Standing};
-ghost use Rattle.retimer.specs.Live.{LiveTable};
-ghost use Rattle.retimer.specs.Optimum.{Asked, PlanRight, encode, modelOf};
-ghost use Rattle.retimer.specs.Search.{leftAt, playedNow, laterOf, PlaceRight, Searching, Found, Reading, Written};
+ghost use mathlib.Core.Bool.{true, false};
+ghost use Prim.Native.Nat.{_+_, _≤_, _<_};
+ghost use lib.ListN.{length, set};
+ghost use Rattle.retimer.specs.Readings.{Standing};
+ghost use Rattle.retimer.specs.Costs.{Known, Ground};
+ghost use Rattle.retimer.specs.Optimum.{Asked, PlanRight};
+ghost use Rattle.retimer.specs.Dates.{fewActions, AheadRight, Dating, Written};
 
-// The numbers for a list that further actions may still complete, and for one that nothing can. A number of ticks is below both.
-pub const EXTENSIBLE: u16 = 60_000;
-
-pub const DEAD: u16 = 65_000;
-
-// What a list of actions comes to, and the configuration after them; the one before them where it comes to no number of ticks.
+// The least ticks of a list of actions, and the configuration after them.
 pub struct Planned {
     pub value: u16,
     pub location: u8,
@@ -31,125 +20,69 @@ pub struct Planned {
 }
 
 // A configuration.
-pub struct Reached {
-    pub location: u8,
-    pub readings: [u8; 2],
+struct Reached {
+    location: u8,
+    readings: [u8; 2],
 }
 
-// The prospect where all is played.
-fn at_end(s: &[u8], live: &[u8], l: u8, r: [u8; 2]) -> u16
-    requires { ⌜ (Loads (now s)) × ((LiveTable (now s) (now live)) × (Standing (now s) l r)) ⌝ }
-    ensures { λ v. ⌜ v ≡ encode (prospect (modelOf (now (s .entry))) [] (located l r)) ⌝ }
-{
-    if liveness::accepts(s, bytes::wide(l)) {
-        return 0;
-    }
-    if liveness::is_live(s, live, l, r) {
-        return EXTENSIBLE;
-    }
-    DEAD
+// Where an action leads that is played now, and the cost from there. Where the cost is that of no correction, the configuration means nothing.
+struct Ahead {
+    cost: u16,
+    location: u8,
+    readings: [u8; 2],
 }
 
-// A prospect seen a tick earlier.
-fn later(v: u16) -> u16
-    requires { ⌜ v ≤ encode dead ⌝ }
-    ensures { λ w. ⌜ w ≡ laterOf v ⌝ }
-{
-    if v < EXTENSIBLE { v + 1 } else { v }
-}
+// The most actions of a short list, and the places of a memo for a short list and for any.
+const FEW: usize = 5;
 
-// The better of two prospects.
-fn better(v: u16, w: u16) -> u16
-    ensures { λ u. ⌜ u ≡ min v w ⌝ }
-{
-    if v < w { v } else { w }
-}
+const FEW_PLACES: usize = (FEW - 1) * Monitor::COUNT * Monitor::WIDTH;
 
-// Whether both readings are saturated.
-fn is_saturated(r: [u8; 2]) -> bool
-    requires { ⌜ Readings r ⌝ }
-    ensures { λ b. ⌜ b ≡ eqb (getD r 0 0 + getD r 1 0) (2 * top) ⌝ }
-{
-    r[0] + r[1] == 2 * Monitor::TOP
-}
+const PLACES: usize = (Monitor::BATCH - 1) * Monitor::COUNT * Monitor::WIDTH;
 
-// The memo's place for a configuration with the action k next. The second reading of an automaton with one clock needs no places.
-fn place(s: &[u8], k: usize, l: u8, r: [u8; 2]) -> usize
-    requires { ⌜ (Loads (now s)) × ((Standing (now s) l r) × ((1 ≤ k) × (k ≤ maxCount))) ⌝ }
-    ensures { λ i. ⌜ PlaceRight (now (s .entry)) k l r i ⌝ }
-{
-    let i = ((k - 1) * Monitor::COUNT + bytes::wide(l)) * Monitor::WIDTH + bytes::wide(r[0]);
-    if s[1] == 1 {
-        i
-    } else {
-        i * Monitor::WIDTH + bytes::wide(r[1])
-    }
-}
-
-// The prospect of the actions from k on.
-fn best(s: &[u8], live: &[u8], cs: &[u8], k: usize, l: u8, r: [u8; 2], memo: &mut [u16]) -> u16
-    requires { ⌜ Searching (now s) (now live) (now cs) k l r (now memo) ⌝ }
-    ensures { λ v. ⌜ Found (now (s .entry)) (now (cs .entry)) (now (memo .exit)) (leftAt (now (s .entry)) (now (cs .entry)) k (located l r)) v ⌝ }
-{
-    if k == cs.len() {
-        return at_end(s, live, l, r);
-    }
-    if k == 0 {
-        return fresh(s, live, cs, k, l, r, memo);
-    }
-    let i = place(s, k, l, r);
-    let known = memo[i];
-    if 0 < known {
-        return known - 1;
-    }
-    let v = fresh(s, live, cs, k, l, r, memo);
-    memo[i] = v + 1;
-    v
-}
-
-// The same of at least one action, by playing it now or later.
-fn fresh(s: &[u8], live: &[u8], cs: &[u8], k: usize, l: u8, r: [u8; 2], memo: &mut [u16]) -> u16
-    requires { ⌜ (Searching (now s) (now live) (now cs) k l r (now memo)) × (k < length (now cs)) ⌝ }
-    ensures { λ v. ⌜ Found (now (s .entry)) (now (cs .entry)) (now (memo .exit)) (leftAt (now (s .entry)) (now (cs .entry)) k (located l r)) v ⌝ }
-{
-    let here = play(s, live, cs, k, l, r, memo);
-    if here <= 1 {
-        return here;
-    }
-    if is_saturated(r) {
-        return here;
-    }
-    let then = best(s, live, cs, k, l, clocks::wait(r), memo);
-    better(here, later(then))
-}
-
-// The prospect where the action k is played now.
-fn play(s: &[u8], live: &[u8], cs: &[u8], k: usize, l: u8, r: [u8; 2], memo: &mut [u16]) -> u16
-    requires { ⌜ (Searching (now s) (now live) (now cs) k l r (now memo)) × (k < length (now cs)) ⌝ }
-    ensures { λ v. ⌜ Found (now (s .entry)) (now (cs .entry)) (now (memo .exit)) (playedNow (now (s .entry)) (now (cs .entry)) k (located l r)) v ⌝ }
+// Looks at playing the action k now.
+fn look<'a>(
+    s: &'a [u8],
+    cs: &'a [u8],
+    k: usize,
+    l: u8,
+    r: [u8; 2],
+    first: &mut [u16],
+    second: &mut [u16],
+) -> Ahead
+    requires { ⌜ (Ground (now s) (now cs) (now first) (now second)) × ((k < length (now cs)) × (Standing (now s) l r)) ⌝ }
+    ensures { λ v. ⌜ AheadRight (now (s .entry)) (now (cs .entry)) k l r (now (first .exit)) (now (second .exit)) v ⌝ }
 {
     let next = lookup::step(s, cs[k], l, r);
-    if !next.found {
-        return DEAD;
-    }
     let readings = next.readings;
-    best(s, live, cs, k + 1, next.location, readings, memo)
+    if !next.found {
+        return Ahead {
+            cost: costs::NEVER,
+            location: next.location,
+            readings,
+        };
+    }
+    let cost = costs::cost(s, cs, k + 1, next.location, readings, first, second);
+    Ahead {
+        cost,
+        location: next.location,
+        readings,
+    }
 }
 
 // Plays the action k as soon as that keeps the least ticks, which are v, and goes on with those after it.
-fn waiting(
-    s: &[u8],
-    live: &[u8],
-    cs: &[u8],
+fn waiting<'a>(
+    s: &'a [u8],
+    cs: &'a [u8],
     k: usize,
     l: u8,
     r: [u8; 2],
     t: u32,
     v: u16,
-    memo: &mut [u16],
+    first: &mut [u16],
+    second: &mut [u16],
     out: &mut [u32],
 ) -> Reached
-    requires { ⌜ Reading (now s) (now live) (now cs) k l r t v (now memo) (now out) ⌝ }
+    requires { ⌜ Dating (now s) (now cs) k l r t v (now first) (now second) (now out) ⌝ }
     ensures { λ q. ⌜ Written (now (s .entry)) (now (cs .entry)) k l r t (now (out .entry)) (now (out .exit)) q ⌝ }
 {
     if k == cs.len() {
@@ -158,58 +91,61 @@ fn waiting(
             readings: r,
         };
     }
-    let here = play(s, live, cs, k, l, r, memo);
-    if here == v {
-        return playing(s, live, cs, k, l, r, t, v, memo, out);
+    let ahead = look(s, cs, k, l, r, first, second);
+    let there = ahead.readings;
+    if ahead.cost == v {
+        return playing(s, cs, k, ahead.location, there, t, v, first, second, out);
     }
-    waiting(s, live, cs, k, l, clocks::wait(r), t + 1, v - 1, memo, out)
+    waiting(
+        s,
+        cs,
+        k,
+        l,
+        clocks::wait(r),
+        t + 1,
+        v - 1,
+        first,
+        second,
+        out,
+    )
 }
 
-// Plays the action k at date t.
-fn playing(
-    s: &[u8],
-    live: &[u8],
-    cs: &[u8],
+// Plays the action k at date t; the configuration is the one after it.
+fn playing<'a>(
+    s: &'a [u8],
+    cs: &'a [u8],
     k: usize,
     l: u8,
     r: [u8; 2],
     t: u32,
     v: u16,
-    memo: &mut [u16],
+    first: &mut [u16],
+    second: &mut [u16],
     out: &mut [u32],
 ) -> Reached
-    requires { ⌜ (Reading (now s) (now live) (now cs) k l r t v (now memo) (now out)) × ((k < length (now cs)) × (playedNow (now s) (now cs) k (located l r) ≡ ticks v)) ⌝ }
-    ensures { λ q. ⌜ Written (now (s .entry)) (now (cs .entry)) k l r t (now (out .entry)) (now (out .exit)) q ⌝ }
+    requires { ⌜ (Dating (now s) (now cs) (k + 1) l r t v (now first) (now second) (now out)) × (k < length (now cs)) ⌝ }
+    ensures { λ q. ⌜ Written (now (s .entry)) (now (cs .entry)) (k + 1) l r t (set (now (out .entry)) k t) (now (out .exit)) q ⌝ }
 {
-    let next = lookup::step(s, cs[k], l, r);
     out[k] = t;
-    let readings = next.readings;
-    waiting(s, live, cs, k + 1, next.location, readings, t, v, memo, out)
+    waiting(s, cs, k + 1, l, r, t, v, first, second, out)
 }
 
-// The plan, with a memo that knows nothing yet.
-fn solve(
-    s: &[u8],
-    live: &[u8],
-    cs: &[u8],
+// The plan, with memos that are right.
+fn solve<'a>(
+    s: &'a [u8],
+    cs: &'a [u8],
     l: u8,
     r: [u8; 2],
     t: u32,
     out: &mut [u32],
-    memo: &mut [u16],
+    first: &mut [u16],
+    second: &mut [u16],
 ) -> Planned
-    requires { ⌜ (Asked (now s) (now live) (now cs) l r t (now out)) × (Searching (now s) (now live) (now cs) 0 l r (now memo)) ⌝ }
+    requires { ⌜ (Asked (now s) (now cs) l r t (now out)) × ((Known (now s) (now cs) false (now first)) × (Known (now s) (now cs) true (now second))) ⌝ }
     ensures { λ v. ⌜ PlanRight (now (s .entry)) (now (cs .entry)) l r t (now (out .entry)) (now (out .exit)) v ⌝ }
 {
-    let v = best(s, live, cs, 0, l, r, memo);
-    if EXTENSIBLE <= v {
-        return Planned {
-            value: v,
-            location: l,
-            readings: r,
-        };
-    }
-    let last = waiting(s, live, cs, 0, l, r, t, v, memo, out);
+    let v = costs::cost(s, cs, 0, l, r, first, second);
+    let last = waiting(s, cs, 0, l, r, t, v, first, second, out);
     let readings = last.readings;
     Planned {
         value: v,
@@ -218,75 +154,70 @@ fn solve(
     }
 }
 
-// One action needs no memo.
-fn plan_one_action(
-    s: &[u8],
-    live: &[u8],
-    cs: &[u8],
-    l: u8,
-    r: [u8; 2],
-    t: u32,
-    out: &mut [u32],
-) -> Planned
-    requires { ⌜ (Asked (now s) (now live) (now cs) l r t (now out)) × (length (now cs) ≡ 1) ⌝ }
+// At most one action: no memo is needed.
+fn plan_one<'a>(s: &'a [u8], cs: &'a [u8], l: u8, r: [u8; 2], t: u32, out: &mut [u32]) -> Planned
+    requires { ⌜ (Asked (now s) (now cs) l r t (now out)) × (length (now cs) ≤ 1) ⌝ }
     ensures { λ v. ⌜ PlanRight (now (s .entry)) (now (cs .entry)) l r t (now (out .entry)) (now (out .exit)) v ⌝ }
 {
-    let mut memo = [0u16; 1];
-    solve(s, live, cs, l, r, t, out, &mut memo)
+    let mut first = [0u16; 0];
+    let mut second = [0u16; 0];
+    solve(s, cs, l, r, t, out, &mut first, &mut second)
 }
 
-// One clock.
-fn plan_one_clock(
-    s: &[u8],
-    live: &[u8],
-    cs: &[u8],
-    l: u8,
-    r: [u8; 2],
-    t: u32,
-    out: &mut [u32],
-) -> Planned
-    requires { ⌜ (Asked (now s) (now live) (now cs) l r t (now out)) × (clocks (now s) ≡ 1) ⌝ }
-    ensures { λ v. ⌜ PlanRight (now (s .entry)) (now (cs .entry)) l r t (now (out .entry)) (now (out .exit)) v ⌝ }
-{
-    let mut memo = [0u16; Monitor::COUNT * Monitor::COUNT * Monitor::WIDTH];
-    solve(s, live, cs, l, r, t, out, &mut memo)
-}
-
-// Two clocks. The memo is the only table above 32 KB, so it stands first.
-fn plan_two_clocks(
-    s: &[u8],
-    live: &[u8],
-    cs: &[u8],
-    l: u8,
-    r: [u8; 2],
-    t: u32,
-    out: &mut [u32],
-) -> Planned
-    requires { ⌜ Asked (now s) (now live) (now cs) l r t (now out) ⌝ }
-    ensures { λ v. ⌜ PlanRight (now (s .entry)) (now (cs .entry)) l r t (now (out .entry)) (now (out .exit)) v ⌝ }
-{
-    let mut memo = [0u16; Monitor::COUNT * Monitor::COUNT * Monitor::VALUATIONS];
-    solve(s, live, cs, l, r, t, out, &mut memo)
-}
-
-// The prospect of the actions and, where it is a number of ticks, their dates from t on; else out is left as it is.
-pub fn plan<'a>(
+// A short list. Each memo has a frame of its own, so that no frame is large: the function calls itself once, with the first memo, for the second. The compiler would join the frames of
+// two functions; it does not join those of one that calls itself.
+fn plan_few<'a>(
     s: &'a [u8],
-    live: &'a [u8],
-    cs: &[u8],
+    cs: &'a [u8],
     l: u8,
     r: [u8; 2],
     t: u32,
     out: &mut [u32],
+    first: &mut [u16],
+    given: bool,
 ) -> Planned
-    requires { ⌜ Asked (now s) (now live) (now cs) l r t (now out) ⌝ }
+    requires { ⌜ (Asked (now s) (now cs) l r t (now out)) × ((length (now cs) ≤ fewActions) × (given ≡ true → Known (now s) (now cs) false (now first))) ⌝ }
     ensures { λ v. ⌜ PlanRight (now (s .entry)) (now (cs .entry)) l r t (now (out .entry)) (now (out .exit)) v ⌝ }
 {
-    if cs.len() == 1 {
-        return plan_one_action(s, live, cs, l, r, t, out);
+    let mut own = [0u16; FEW_PLACES];
+    if given {
+        return solve(s, cs, l, r, t, out, first, &mut own);
     }
-    if s[1] == 1 {
-        return plan_one_clock(s, live, cs, l, r, t, out);
+    plan_few(s, cs, l, r, t, out, &mut own, true)
+}
+
+// Any list, in the same way.
+fn plan_many<'a>(
+    s: &'a [u8],
+    cs: &'a [u8],
+    l: u8,
+    r: [u8; 2],
+    t: u32,
+    out: &mut [u32],
+    first: &mut [u16],
+    given: bool,
+) -> Planned
+    requires { ⌜ (Asked (now s) (now cs) l r t (now out)) × (given ≡ true → Known (now s) (now cs) false (now first)) ⌝ }
+    ensures { λ v. ⌜ PlanRight (now (s .entry)) (now (cs .entry)) l r t (now (out .entry)) (now (out .exit)) v ⌝ }
+{
+    let mut own = [0u16; PLACES];
+    if given {
+        return solve(s, cs, l, r, t, out, first, &mut own);
     }
-    plan_two_clocks(s, live, cs, l, r, t, out)
+    plan_many(s, cs, l, r, t, out, &mut own, true)
+}
+
+// The least ticks of a list that has a correction, its dates from t on, and the configuration after them.
+pub fn plan<'a>(s: &'a [u8], cs: &'a [u8], l: u8, r: [u8; 2], t: u32, out: &mut [u32]) -> Planned
+    requires { ⌜ Asked (now s) (now cs) l r t (now out) ⌝ }
+    ensures { λ v. ⌜ PlanRight (now (s .entry)) (now (cs .entry)) l r t (now (out .entry)) (now (out .exit)) v ⌝ }
+{
+    if cs.len() <= 1 {
+        return plan_one(s, cs, l, r, t, out);
+    }
+    let mut none = [0u16; 0];
+    if cs.len() <= FEW {
+        return plan_few(s, cs, l, r, t, out, &mut none, false);
+    }
+    plan_many(s, cs, l, r, t, out, &mut none, false)
 }

@@ -14,13 +14,15 @@ fn up_to(low: u8, x: u8) -> u8
     if x < low { low - x } else { 0 }
 }
 
-fn larger(a: u8, b: u8) -> u8
+// The larger of two numbers.
+pub fn larger(a: u8, b: u8) -> u8
     ensures { λ v. ⌜ v ≡ max a b ⌝ }
 {
     if a < b { b } else { a }
 }
 
-fn smaller(a: u8, b: u8) -> u8
+// The smaller.
+pub fn smaller(a: u8, b: u8) -> u8
     ensures { λ v. ⌜ v ≡ min a b ⌝ }
 {
     if a < b { a } else { b }

@@ -1,10 +1,12 @@
 //! The sheets for which a search over actions left, location and two readings
-//! meets the most states, and the offers that cost most.
+//! meets the most states or looks at each most often, and the offers that cost
+//! most.
 
 use super::script::Script;
 use super::Input;
 use crate::generate::Draft;
 use crate::limits::MAX_PENDING;
+use crate::random::Random;
 use crate::sheet::{RULE, UNBOUNDED};
 
 /// The action of which the pending list consists.
@@ -106,6 +108,55 @@ fn climbing(location: u8) -> Vec<[u8; RULE]> {
     sorts.map(turned).to_vec()
 }
 
+/// How many locations are dead: nothing leads from them to the goal.
+const DEAD: u8 = 10;
+/// The location by which the goal is reached.
+const LIVE: u8 = 14;
+/// The seed whose sheet costs most, of 12,000.
+const WORST_SEED: u64 = 5811;
+
+/// The sheet of the worst plan found. All that the dead locations cost is
+/// worked out, and as there is no way out of them, nothing cuts that short. The
+/// goal is reached past them, after a wait of 30 ticks.
+pub fn dead_locations() -> Vec<u8> {
+    let mut random = Random::new(WORST_SEED);
+    let targets = [(); 6].map(|()| permutation(&mut random));
+    let dead = |location: usize| among_dead(targets.each_ref().map(|to| to[location]));
+    let mut outgoing: Vec<_> = (0..DEAD.into()).map(dead).collect();
+    outgoing.resize(LIVE.into(), Vec::new());
+    outgoing.push(vec![
+        rule(HELD, LIVE, NONE, ANY, ANY),
+        rule(EXIT, GOAL, NONE, ANY, ANY),
+    ]);
+    outgoing.push(vec![
+        rule(HELD, 0, FIRST, [0, 29], ANY),
+        rule(HELD, LIVE, NONE, [30, UNBOUNDED], ANY),
+    ]);
+    draft(outgoing).bytes()
+}
+
+/// The dead locations in a random order.
+fn permutation(random: &mut Random) -> Vec<u8> {
+    let mut locations: Vec<u8> = (0..DEAD).collect();
+    random.shuffle(&mut locations);
+    locations
+}
+
+/// Right after a reset, and a tick later, the transitions reset nothing and
+/// lead to two locations, so that soon all are reached without a reset. Later
+/// each wait leads to another configuration, by a reset of one clock.
+fn among_dead(to: [u8; 6]) -> Vec<[u8; RULE]> {
+    let later = [2, UNBOUNDED];
+    vec![
+        rule(HELD, to[0], NONE, [0, 0], ANY),
+        rule(HELD, to[1], NONE, [1, 1], ANY),
+        rule(HELD, to[2], NONE, later, [0, 0]),
+        rule(HELD, to[3], NONE, later, [1, 1]),
+        rule(HELD, to[4], FIRST, later, [2, 29]),
+        rule(HELD, to[5], SECOND, later, [30, UNBOUNDED]),
+    ]
+}
+
 /// Fills the pending list from the last scheduled date on; gives the date.
 fn fill(script: &mut Script) -> u32 {
     let date = script.monitor().reached().date;
@@ -170,4 +221,27 @@ pub fn no_room_many(calls: usize) -> Vec<Input> {
 /// No room for a late correction.
 pub fn no_room_late(calls: usize) -> Vec<Input> {
     no_room(&late_correction(), calls)
+}
+
+/// A correction of 17 actions that is scheduled, once a run: the next offer
+/// would have another box.
+fn planned(sheet: &[u8]) -> Vec<Input> {
+    let mut script = Script::new(sheet);
+    let date = fill(&mut script);
+    vec![script.repeating(EXIT, date, 1)]
+}
+
+/// A plan on the sheet with the most states.
+pub fn planned_many(_calls: usize) -> Vec<Input> {
+    planned(&many_states())
+}
+
+/// A plan with a late correction.
+pub fn planned_late(_calls: usize) -> Vec<Input> {
+    planned(&late_correction())
+}
+
+/// The worst plan found.
+pub fn planned_worst(_calls: usize) -> Vec<Input> {
+    planned(&dead_locations())
 }

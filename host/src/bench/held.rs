@@ -52,14 +52,14 @@ fn input(clocks: u8, seed: u64, calls: usize) -> Option<Input> {
 }
 
 /// A date at which all readings are capped.
-fn fresh_date(script: &Script) -> u32 {
+pub fn fresh_date(script: &Script) -> u32 {
     let monitor = script.monitor();
     monitor.date().max(monitor.reached().date) + CAP as u32
 }
 
 /// A random automaton that starts in the last location. This is the only
 /// accepting one, and only the last action leads to it.
-fn one_exit(random: &mut Random, clocks: u8) -> Draft {
+pub fn one_exit(random: &mut Random, clocks: u8) -> Draft {
     let (low, high) = random.pick(&[(1, 5), (1, 14), (0, 30)]);
     let profile = Profile {
         locations: (4, 8),
@@ -111,7 +111,7 @@ fn batch(script: &mut Script, random: &mut Random) -> Option<u32> {
 }
 
 /// An action that would be held.
-fn pick_held(script: &Script, random: &mut Random, date: u32) -> Option<u8> {
+pub fn pick_held(script: &Script, random: &mut Random, date: u32) -> Option<u8> {
     let mut actions: Vec<u8> = (0..script.monitor().automaton().actions).collect();
     random.shuffle(&mut actions);
     let held = |action: &u8| script.outlook(*action, date) == Decision::Hold;

@@ -10,20 +10,24 @@ mod measure;
 mod mixed;
 mod report;
 mod script;
+mod short;
 
 pub use instructions::Counter;
 pub use measure::{typical, Difference, Figures, Folder, Measured, Programs, Stop};
 pub use report::report;
 
-use crate::desk::CALL;
+use crate::desk::{CALL, COLLECTION};
 use course::single;
 use heaviest::{batches_late, batches_many, dropped, held_too_many, no_room_late, no_room_many};
+use heaviest::{planned_late, planned_many, planned_worst};
 use held::{one_clock as long_one, two_clocks as long_two};
+use std::path::Path;
+use std::{fs, io};
 
 /// A desk input, and the part of it that is not counted.
 #[derive(Clone, Debug, PartialEq, Eq)]
 pub struct Input {
-    /// The beginning whose cost is subtracted.
+    /// The part whose cost is subtracted; mostly the beginning.
     pub base: Vec<u8>,
     /// All bytes.
     pub whole: Vec<u8>,
@@ -38,6 +42,19 @@ impl Input {
             &self.whole[..self.base.len() + CALL * few]
         } else {
             &self.whole
+        }
+    }
+
+    /// The same with the offers counted and the collections subtracted. It is
+    /// given to all programs whole: the base is no beginning of it.
+    fn offers(self) -> Input {
+        let (front, calls) = self.whole.split_at(self.base.len());
+        let calls = calls.chunks_exact(CALL);
+        let (collections, offers): (Vec<_>, Vec<_>) = calls.partition(|call| call[0] == COLLECTION);
+        Input {
+            base: [front, &collections.concat()].concat(),
+            count: offers.len(),
+            whole: self.whole,
         }
     }
 }
@@ -100,13 +117,24 @@ pub const KINDS: &[Kind] = &[
     kind("heaviest, late correction", [680, 34, 34, 6], batches_late),
 ];
 
+/// The kinds whose times are per offer, the collections not counted.
+pub const SHORT: &[Kind] = &[kind(
+    "two clocks, 2 to 5 commands",
+    [40_000, ALL, 1_600, 30],
+    short::two_clocks,
+)];
+
 /// The kinds that repeat one offer each, so often that it takes longer than the
-/// offers before it, whose noise it would be lost in otherwise.
+/// offers before it, whose noise it would be lost in otherwise. Those that get
+/// dates take so long that once is enough.
 pub const WORST: &[Kind] = &[
     kind("many states, S-4", [200, ALL, 4, 6], held_too_many),
     kind("many states, dropped", [200, ALL, 4, 6], dropped),
     kind("many states, S-3", [200, 40, 2, 6], no_room_many),
     kind("late correction, S-3", [200, 2, 1, 6], no_room_late),
+    kind("many states, scheduled", [1, ALL, 1, 30], planned_many),
+    kind("late correction, scheduled", [1, ALL, 1, 6], planned_late),
+    kind("worst plan found", [1, ALL, 1, 30], planned_worst),
 ];
 
 /// The kinds whose times are per load.
@@ -124,3 +152,15 @@ pub const LOADING: &[Kind] = &[
         loading::longest_called,
     ),
 ];
+
+/// Writes the inputs of all kinds to a folder, with the calls whose instructions
+/// are counted.
+pub fn write_inputs(folder: &Path) -> io::Result<()> {
+    for kind in KINDS.iter().chain(SHORT).chain(WORST).chain(LOADING) {
+        for (number, input) in kind.inputs(kind.short).iter().enumerate() {
+            let name = format!("{}, {number}", kind.name);
+            fs::write(folder.join(name), &input.whole)?;
+        }
+    }
+    Ok(())
+}

@@ -2,7 +2,7 @@
 
 use super::instructions::Counter;
 use super::measure::{Figures, Folder, Programs, Stop};
-use super::{Input, Kind, KINDS, LOADING, WORST};
+use super::{Input, Kind, KINDS, LOADING, SHORT, WORST};
 use std::fmt::Display;
 use std::io::Write;
 use std::path::Path;
@@ -42,6 +42,13 @@ const CALLS: Group = Group {
     unit: MICROSECONDS,
     noise: 0.0,
     kinds: KINDS,
+};
+const LISTS: Group = Group {
+    title: "short lists",
+    per: "offer",
+    unit: MICROSECONDS,
+    noise: 0.0,
+    kinds: SHORT,
 };
 const OFFERS: Group = Group {
     title: "heaviest",
@@ -94,7 +101,7 @@ pub fn report(programs: &Programs, counting: bool, out: &mut dyn Write) -> Resul
         folder: Folder::new()?,
         out,
     };
-    for group in [CALLS, OFFERS] {
+    for group in [CALLS, LISTS, OFFERS] {
         bench.times(&group)?;
         if counting {
             bench.instructions(&group)?;

@@ -1,20 +1,42 @@
 //! Measures a desk program against the reference and against the program
-//! written for speed, as ratios within one run.
+//! written for speed, as ratios within one run, or writes the inputs of that.
 
-use host::bench::{report, Programs, Stop};
+use host::bench::{report, write_inputs, Programs, Stop};
 use std::ffi::OsString;
 use std::io;
 use std::path::{Path, PathBuf};
 use std::process::ExitCode;
 
-const USAGE: &str = "usage: bench PROGRAM [--instructions]";
+const USAGE: &str = "usage: bench PROGRAM [--instructions]
+       bench --inputs FOLDER (writes its inputs, with few calls, to files there)";
 
 fn main() -> ExitCode {
     let arguments: Vec<OsString> = std::env::args_os().skip(1).collect();
+    if let [flag, folder] = arguments.as_slice() {
+        if flag == "--inputs" {
+            return write(Path::new(folder));
+        }
+    }
     let Some((program, counting)) = parse(&arguments) else {
         eprintln!("{USAGE}");
         return ExitCode::from(2);
     };
+    measure(program, counting)
+}
+
+/// Writes the inputs.
+fn write(folder: &Path) -> ExitCode {
+    match write_inputs(folder) {
+        Ok(()) => ExitCode::SUCCESS,
+        Err(error) => {
+            eprintln!("bench: the inputs cannot be written: {error}\n{USAGE}");
+            ExitCode::from(2)
+        }
+    }
+}
+
+/// Measures and prints the tables.
+fn measure(program: &Path, counting: bool) -> ExitCode {
     let programs = match programs(program) {
         Ok(programs) => programs,
         Err(error) => {

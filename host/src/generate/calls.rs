@@ -157,6 +157,15 @@ impl Script {
         }
     }
 
+    /// Plays all that is scheduled, each action when it is due or a little later.
+    pub fn play_all(&mut self, random: &mut Random) {
+        while let Some(oldest) = self.monitor.schedule().first() {
+            let due = oldest.date.max(self.monitor.date());
+            let late = random.pick(&[0, 0, 0, 0, 1, 3]);
+            self.collect((due + late).min(LAST_DATE));
+        }
+    }
+
     /// Adds a call whose action or date, or both, may be out of range.
     fn stray(&mut self, random: &mut Random) {
         let now = self.monitor.date();

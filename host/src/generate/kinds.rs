@@ -3,6 +3,7 @@
 use super::blocks::{many_calls, whole_blocks};
 use super::calls::{push_call, push_random_calls, Pace, Plan, Script};
 use super::damage::{at_an_edge, damaged};
+use super::dated::dated_lists;
 use super::draft::{draw, Bounds, Draft, Goal, Profile};
 use super::with_length;
 use crate::course::{A, B, C, D, E};
@@ -25,6 +26,7 @@ pub const KINDS: &[Kind] = &[
     kind("deadlines", deadlines),
     kind("long_pending", long_pending),
     kind("long_two_clocks", long_two_clocks),
+    kind("dated_lists", dated_lists),
     kind("full_schedule", full_schedule),
     kind("full_sheet", full_sheet),
     kind("late", late),
@@ -51,9 +53,9 @@ pub fn kind_named(name: &str) -> Option<&'static Kind> {
 pub(super) const SMALL: Bounds = Bounds { low: 1, high: 5 };
 pub(super) const MIDDLE: Bounds = Bounds { low: 1, high: 14 };
 const LARGE: Bounds = Bounds { low: 25, high: 30 };
-const ALL: Bounds = Bounds { low: 0, high: 30 };
+pub(super) const ALL: Bounds = Bounds { low: 0, high: 30 };
 
-const SLOW: Pace = Pace {
+pub(super) const SLOW: Pace = Pace {
     still: 60,
     jumps: 5,
     step: 2,
@@ -70,7 +72,7 @@ pub(super) fn not_dropped(answer: &Answer) -> bool {
     *answer != Answer::Dropped
 }
 
-fn lengthens(answer: &Answer) -> bool {
+pub(super) fn lengthens(answer: &Answer) -> bool {
     matches!(answer, Answer::Held(_) | Answer::Refused(Refusal::S4))
 }
 
@@ -184,7 +186,7 @@ fn far_goal(random: &mut Random, clocks: u8) -> Draft {
 }
 
 /// Lets the last action, and no other, lead to the last location.
-fn one_exit(random: &mut Random, draft: &mut Draft) {
+pub(super) fn one_exit(random: &mut Random, draft: &mut Draft) {
     let last = draft.locations - 1;
     for rule in draft.outgoing.iter_mut().flatten() {
         if rule[0] == draft.actions - 1 {

@@ -3,6 +3,7 @@
 mod blocks;
 mod calls;
 mod damage;
+mod dated;
 mod draft;
 mod kinds;
 

@@ -1,11 +1,8 @@
--- `optimum::plan` meets its contract: the tests give what the search asks.
--- Assumes nothing.
-use mathlib.Core.Path.{refl}
+-- `optimum::plan` meets its contract: the tests give what the search asks. Assumes nothing.
 use native.Mathlib.Omega.{arith}
-use lib.ListN.{length}
 use borrow.Author.Tests.{not-false}
+use Rattle.retimer.proofs.Outlooks.{correct-prospect}
 use borrow.Author.Needs.{needs}
-use Rattle.io.proofs.Counting.{front}
 use Rattle.layers.proofs.optimum.plan.Statement.{statement}
 use Rattle.layers.proofs.optimum.plan.Tie as tie
 
@@ -21,32 +18,47 @@ returns-2 c = search needs
 returns-3 : tie.Need-returns-3
 returns-3 c = search needs
 
+live-table-requires : tie.Need-live-table-requires
+live-table-requires c κs = c .before .before .before .stands .ensures (not-false (c .before .before .before .stands .result) (c .before .before .if1 .left)) .0
+
+slice-aggregate-outlook-of : tie.Need-slice-aggregate-outlook-of
+slice-aggregate-outlook-of c = search needs
+
+outlook-of-requires : tie.Need-outlook-of-requires
+outlook-of-requires c κs = let h = c .before .before .before .before .before .before .stands .ensures (not-false (c .before .before .before .before .before .before .stands .result) (c .before .before .before .before .before .if1 .left)) in record { loads = h .0; table = c .before .before .live-table .ensures; standing = h .1 }
+
+enum-told : tie.Need-enum-told
+enum-told c = search needs
+
+dated-requires : tie.Need-dated-requires
+dated-requires c κs = let h = c .before .before .before .before .before .before .before .before .before .stands .ensures (not-false (c .before .before .before .before .before .before .before .before .before .stands .result) (c .before .before .before .before .before .before .before .before .if1 .left)) in record { loads = h .0; few = omega (arith, c .before .before .before .before .before .before .before .if2 .left); standing = h .1; correctable = correct-prospect _ (c .enum-told .given .1) (c .before .before .outlook-of .ensures); early = c .before .before .before .before .before .before .if3 .left; room = omega (arith, c .before .before .before .before .before .before .before .if2 .left) }
+
+enum-told-2 : tie.Need-enum-told-2
+enum-told-2 c = search needs
+
+slice-aggregate-word : tie.Need-slice-aggregate-word
+slice-aggregate-word c = search needs
+
+word-requires : tie.Need-word-requires
+word-requires c κs = search needs
+
+enum-told-3 : tie.Need-enum-told-3
+enum-told-3 c = search needs
+
+slice-aggregate-word-2 : tie.Need-slice-aggregate-word-2
+slice-aggregate-word-2 c = search needs
+
+word-requires-2 : tie.Need-word-requires-2
+word-requires-2 c κs = search needs
+
 returns-4 : tie.Need-returns-4
 returns-4 c = search needs
 
-live-table-requires : tie.Need-live-table-requires
-live-table-requires c κs = c .before .before .before .before .stands .ensures (not-false (c .before .before .before .before .stands .result) (c .before .before .before .if1 .left)) .0
-
-slice-aggregate-plan : tie.Need-slice-aggregate-plan
-slice-aggregate-plan c = search needs
-
-slice-aggregate-plan-2 : tie.Need-slice-aggregate-plan-2
-slice-aggregate-plan-2 c = search needs
-
-plan-requires : tie.Need-plan-requires
-plan-requires c κs = record { loads = c .before .before .before .before .before .before .before .before .stands .ensures (not-false (c .before .before .before .before .before .before .before .before .stands .result) (c .before .before .before .before .before .before .before .if1 .left)) .0; table = c .before .before .before .live-table .ensures; some-action = omega arith; few = omega arith; standing = c .before .before .before .before .before .before .before .before .stands .ensures (not-false (c .before .before .before .before .before .before .before .before .stands .result) (c .before .before .before .before .before .before .before .if1 .left)) .1; early = c .before .before .before .before .if4 .left; room = refl }
-
-array-share-prefix-out : tie.Need-array-share-prefix-out
-array-share-prefix-out c = search needs
-
-slice-aggregate-print-plan : tie.Need-slice-aggregate-print-plan
-slice-aggregate-print-plan c = front (length (c .before .before .before .before .before .before .before .before .before .before .before .before .before .before .args .cs .now)) (c .before .before .plan .last .1 .1 .1 .1 .1 .1 .0) (omega (arith, c .before .before .plan .kept .1 .1 .1 .1 .1 .1 .0))
-
-print-plan-requires : tie.Need-print-plan-requires
-print-plan-requires c κs = search needs
-
 returns-5 : tie.Need-returns-5
 returns-5 c = search needs
+
+returns-6 : tie.Need-returns-6
+returns-6 c = search needs
 
 pub plan-spec : {M : Type 1} → statement M
 plan-spec =
@@ -56,12 +68,17 @@ plan-spec =
     returns
     returns-2
     returns-3
-    returns-4
     live-table-requires
-    slice-aggregate-plan
-    slice-aggregate-plan-2
-    plan-requires
-    array-share-prefix-out
-    slice-aggregate-print-plan
-    print-plan-requires
-    returns-5)
+    slice-aggregate-outlook-of
+    outlook-of-requires
+    enum-told
+    dated-requires
+    enum-told-2
+    slice-aggregate-word
+    word-requires
+    enum-told-3
+    slice-aggregate-word-2
+    word-requires-2
+    returns-4
+    returns-5
+    returns-6)

@@ -1,5 +1,6 @@
 -- `outlook::single` meets its contract. The invariant: no transition before p ends the action, and `lives` says whether one leads to a live configuration. The measure is what is left of the places. Assumes nothing.
-use Rattle.retimer.proofs.Looking.{Looking, looking-begun, looking-correct, looking-other, looking-live, looking-dead, looking-extensible, looking-none, left-asked, left-inside, left-fits}
+use Rattle.retimer.proofs.Looking.{Looking, looking-begun, looking-correct, looking-other, looking-live, looking-dead, looking-extensible, looking-none, left-asked}
+use Rattle.retimer.proofs.Left.{left-inside, left-fits}
 use Rattle.enforcement.proofs.Loading.{pairs-fit}
 use mathlib.Core.Path.{sym, _∙_}
 use mathlib.Core.Bool.{false≢true}

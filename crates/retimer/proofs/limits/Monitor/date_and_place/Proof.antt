@@ -10,55 +10,53 @@ use borrow.Author.Needs.{needs}
 use Rattle.retimer.proofs.limits.Monitor.date_and_place.Statement.{statement}
 use Rattle.retimer.proofs.limits.Monitor.date_and_place.Tie as tie
 
+slice-aggregate-list : tie.Need-slice-aggregate-list
+slice-aggregate-list c = search needs
+
 slice-aggregate-plan : tie.Need-slice-aggregate-plan
 slice-aggregate-plan c =
-    let a = c .before .before .before .before .before .before in
+    let a = c .before .before .before .before .before in
     sym (length-take-le (a .args .t1 .size) (a .args .t1 .bytes) (omega (arith, a .pre .sound .bytes-sized, a .pre .sound .size-fits)))
 
-add-cs : tie.Need-add-cs
-add-cs c = search needs
-
-array-share-prefix-cs : tie.Need-array-share-prefix-cs
-array-share-prefix-cs c = search needs
+add-plan : tie.Need-add-plan
+add-plan c = search needs
 
 slice-aggregate-plan-2 : tie.Need-slice-aggregate-plan-2
 slice-aggregate-plan-2 c =
-    let a = c .before .before .before .before .before .before .before in
+    let a = c .before .before .before .before .before .before in
     sym (length-take-le (a .args .t1 .held + 1) (a .args .t3) (omega (arith, a .pre .sound .held-fits, a .good)))
 
 slice-aggregate-plan-3 : tie.Need-slice-aggregate-plan-3
 slice-aggregate-plan-3 c = search needs
 
 plan-requires : tie.Need-plan-requires
-plan-requires c κs =
-    let a = c .before .before .before .before .before .before .before .before in
-    plan-asked (a .args .t1) (a .args .t) _ _ (a .args .t3) _ (a .pre .sound) (a .pre .early) (a .pre .start-is) (a .pre .here-is) (omega (arith, a .good)) refl
+plan-requires c κs = let a = c .before .before .before .before .before .before .before in plan-asked (a .pre) (omega (arith, a .good)) refl
 
 cast-place : tie.Need-cast-place
 cast-place c = search needs
 
 add-place : tie.Need-add-place
 add-place c =
-    let a = c .before .before .before .before .before .before .before .before .before .before .before .before in
+    let a = c .before .before .before .before .before .before .before .before .before .before .before in
     record { fits = omega (arith, value-small _ _ _ _ _ _ (worked (a .pre) (omega (arith, a .good))) (a .pre .correctable .0) (a .pre .correctable .1) _ _ (c .before .before .before .plan .result) (c .before .before .before .plan .ensures), a .pre .start-is, a .pre .early, a .pre .sound .last-fits) }
 
 place-requires : tie.Need-place-requires
 place-requires c κs =
-    let a = c .before .before .before .before .before .before .before .before .before .before .before .before in
+    let a = c .before .before .before .before .before .before .before .before .before .before .before in
     place-asked _ _ _ _ _ _ (worked (a .pre) (omega (arith, a .good))) (a .pre .correctable .0) (a .pre .correctable .1) _ _ (c .before .before .before .plan .result) (c .before .before .before .plan .ensures)
 
 returns : tie.Need-returns
 returns c =
-    let a = c .before .before .before .before .before .before .before .before .before .before .before .before .before in
+    let a = c .before .before .before .before .before .before .before .before .before .before .before .before in
     done-same _ _ _ (c .place .result) (c .place .ensures) (place-is _ _ _ _ _ _ (worked (a .pre) (omega (arith, a .good))) (a .pre .correctable .0) (a .pre .correctable .1) _ _ (c .before .before .before .before .plan .result) (c .before .before .before .before .plan .ensures))
 
 pub date-and-place-spec : {M : Type 1} → statement M
 date-and-place-spec =
     tie.close
     (tie.spec
+    slice-aggregate-list
     slice-aggregate-plan
-    add-cs
-    array-share-prefix-cs
+    add-plan
     slice-aggregate-plan-2
     slice-aggregate-plan-3
     plan-requires
