@@ -38,7 +38,7 @@ le-or-lt a b = go (leb a b) refl
 -- ---- Numbers
 
 -- A position and a cost end by w.
-within-cost : (a : Prospect) (u w : ℕ) → w < never → Within w a u ↔ (u + cost a ≤ w)
+pub within-cost : (a : Prospect) (u w : ℕ) → w < never → Within w a u ↔ (u + cost a ≤ w)
 within-cost (ticks n) u w h = (λ m. m, λ m. m)
 within-cost extensible u w h = (λ m. absurd m, λ m. absurd (omega arith))
 within-cost dead u w h = (λ m. absurd m, λ m. absurd (omega arith))

@@ -13,6 +13,11 @@ pub mod Played
 pub mod Intervals
 pub mod Ways
 pub mod CostLaws
+pub mod Laying
+pub mod LayingRows
+pub mod LayingBoxes
+pub mod LayingLocations
+pub mod LayingAll
 pub mod Chains
 pub mod Memos
 pub mod Rules

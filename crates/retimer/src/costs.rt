@@ -78,14 +78,14 @@ fn reach(next: &mut [u8], t: usize, u: u8, front: Front) -> Front
 }
 
 // The better of two costs.
-fn better(v: u16, w: u16) -> u16
+pub fn better(v: u16, w: u16) -> u16
     ensures { λ u. ⌜ u ≡ min v w ⌝ }
 {
     if v < w { v } else { w }
 }
 
 // The cost where all is played.
-fn ending(s: &[u8], l: u8) -> u16
+pub fn ending(s: &[u8], l: u8) -> u16
     requires { ⌜ (Loads (now s)) × (l < maxCount) ⌝ }
     ensures { λ v. ⌜ v ≡ cond (accepting (now (s .entry)) l) 0 never ⌝ }
 {

@@ -33,6 +33,9 @@ pub mod waits;
 // The least ticks of a list of actions.
 mod costs;
 
+// Layers of costs.
+mod layers;
+
 // The dates of a list of actions that has a correction.
 pub mod optimum;
 

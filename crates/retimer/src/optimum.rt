@@ -1,6 +1,7 @@
 // The dates of a list of actions that has a correction: the least ticks, and each action as soon as that keeps them.
 use crate::clocks;
 use crate::costs;
+use crate::layers;
 use crate::limits::Monitor;
 use crate::lookup;
 ghost use mathlib.Core.Path.{_≡_};
@@ -202,6 +203,7 @@ fn plan_many<'a>(
 {
     let mut own = [0u16; PLACES];
     if given {
+        layers::layers(s, cs, first, &mut own);
         return solve(s, cs, l, r, t, out, first, &mut own);
     }
     plan_many(s, cs, l, r, t, out, &mut own, true)

@@ -5,7 +5,7 @@ use crate::limits::Monitor;
 mod row;
 
 // The readings and rows that a transition allows.
-mod bounds;
+pub mod bounds;
 
 // The rows of a location: waiting, and the parts of a transition.
 mod rows;

@@ -33,7 +33,7 @@ past-ordered low high h = go (eqb high 255) refl (h .high-fits)
     go false e (inr f) = absurd (eqb-false high 255 e f)
 
 -- Within the bounds, as an interval of readings.
-within-past : (low high x : ℕ) → x ≤ top → ((low ≤ x) × (x < past high)) ↔ (within low high x ≡ true)
+pub within-past : (low high x : ℕ) → x ≤ top → ((low ≤ x) × (x < past high)) ↔ (within low high x ≡ true)
 within-past low high x l = (λ u. test-true (within-tests low high x) (u .0, go (eqb high 255) refl (u .1)), λ e. let w = within-tests low high x .passes e in (w .0, back (eqb high 255) refl (w .1)))
   where
     go : (b : Bool) → eqb high 255 ≡ b → x < cond b width (high + 1) → (high ≡ 255) ⊎ (x ≤ high)

@@ -1,0 +1,152 @@
+-- `layers::descend` meets its contract: it falls by the actions before the tables. Assumes nothing.
+use borrow.Author.Needs.{needs}
+use native.Mathlib.Omega.{arith}
+use Rattle.retimer.proofs.LayingAll.{laying-next, full-next, filled, blank-low, blank-high}
+use Prim.Native.Nat.{ℕ, _<_}
+use borrow.Fn.Kinds.{In}
+use borrow.Fn.PlainCycle.{Measures, is, falls, and}
+use Rattle.retimer.proofs.layers.descend.Reads as descend
+use Rattle.retimer.proofs.layers.descend.Kinds as descend-kinds
+use Rattle.retimer.proofs.layers.+descend.Lts-descend as descend-lts
+use Rattle.retimer.proofs.layers.lay_all.Reads as lay-all-reads
+use Rattle.retimer.proofs.layers.+descend.{statement}
+use Rattle.retimer.proofs.layers.+descend.Tie.{close}
+
+abbrev μ-descend : Measures 8 descend-kinds.ps ℕ
+μ-descend κs a = a .1 .1 .0
+
+abbrev descend-at : ℕ → In 8 descend-kinds.ps
+descend-at t = and 8 descend-kinds.ps (is 8 descend-kinds.ps μ-descend t) descend.Pre
+
+abbrev descend-below : ℕ → In 8 descend-kinds.ps
+descend-below t = and 8 descend-kinds.ps (falls 8 descend-kinds.ps _<_ μ-descend t) descend.Pre
+
+-- src/layers.rt:250:9
+descend-returns : (t : ℕ) → descend-lts.Need-returns (
+  lay-all-reads.Asked,
+  lay-all-reads.Learnt,
+  descend-below t,
+  descend.Post,
+) (descend-at t) descend.Post
+descend-returns t c = filled (c .before .before .before .before .before .before .before .before .before .pre .1 .0 .0) (omega arith)
+
+-- src/layers.rt:252:20
+descend-sub-lay-all : (t : ℕ) → descend-lts.Need-sub-lay-all (
+  lay-all-reads.Asked,
+  lay-all-reads.Learnt,
+  descend-below t,
+  descend.Post,
+) (descend-at t) descend.Post
+descend-sub-lay-all t c = omega arith
+
+-- src/layers.rt:252:5
+descend-lay-all-requires : (t : ℕ) → descend-lts.Need-lay-all-requires (
+  lay-all-reads.Asked,
+  lay-all-reads.Learnt,
+  descend-below t,
+  descend.Post,
+) (descend-at t) descend.Post
+descend-lay-all-requires t c κs = ((laying-next (c .before .before .before .before .before .before .before .before .before .before .before .before .before .before .before .pre .1 .0 .0) (c .before .before .before .before .before .before .before .before .before .before .before .before .before .before .before .pre .1 .0 .1) (omega arith), omega arith), (c .before .before .before .before .before .before .before .before .before .before .before .before .before .before .before .pre .1 .1, (c .before .before .before .before .before .before .before .before .before .before .before .before .before .before .before .pre .1 .0 .0 .ground, full-next (c .before .before .before .before .before .before .before .before .before .before .before .before .before .before .before .pre .1 .0 .0) (omega arith))))
+
+-- src/layers.rt:253:20
+descend-sub-descend : (t : ℕ) → descend-lts.Need-sub-descend (
+  lay-all-reads.Asked,
+  lay-all-reads.Learnt,
+  descend-below t,
+  descend.Post,
+) (descend-at t) descend.Post
+descend-sub-descend t c = omega arith
+
+-- src/layers.rt:253:5
+descend-descend-requires : (t : ℕ) → descend-lts.Need-descend-requires (
+  lay-all-reads.Asked,
+  lay-all-reads.Learnt,
+  descend-below t,
+  descend.Post,
+) (descend-at t) descend.Post
+descend-descend-requires t c κs = (omega (arith, c .before .before .before .before .before .before .before .before .before .before .before .before .before .before .before .before .before .before .before .before .before .before .before .before .before .before .before .before .before .before .pre .0), ((c .before .before .before .before .before .before .before .before .before .before .before .before .before .before .lay-all .ensures, omega (arith, c .before .before .before .before .before .before .before .before .before .before .before .before .before .before .before .before .before .before .before .before .before .before .before .before .before .before .before .before .before .before .pre .1 .0 .1)), (blank-low (c .before .before .before .before .before .before .before .before .before .before .before .before .before .before .before .before .before .before .before .before .before .before .before .before .before .before .before .before .before .before .pre .1 .0 .0), blank-high (c .before .before .before .before .before .before .before .before .before .before .before .before .before .before .before .before .before .before .before .before .before .before .before .before .before .before .before .before .before .before .pre .1 .0 .0))))
+
+-- src/layers.rt:235:1
+descend-same-length : (t : ℕ) → descend-lts.Need-same-length (
+  lay-all-reads.Asked,
+  lay-all-reads.Learnt,
+  descend-below t,
+  descend.Post,
+) (descend-at t) descend.Post
+descend-same-length t c = search needs
+
+-- src/layers.rt:235:1
+descend-same-length-2 : (t : ℕ) → descend-lts.Need-same-length-2 (
+  lay-all-reads.Asked,
+  lay-all-reads.Learnt,
+  descend-below t,
+  descend.Post,
+) (descend-at t) descend.Post
+descend-same-length-2 t c = search needs
+
+-- src/layers.rt:235:1
+descend-same-length-3 : (t : ℕ) → descend-lts.Need-same-length-3 (
+  lay-all-reads.Asked,
+  lay-all-reads.Learnt,
+  descend-below t,
+  descend.Post,
+) (descend-at t) descend.Post
+descend-same-length-3 t c = search needs
+
+-- src/layers.rt:235:1
+descend-same-length-4 : (t : ℕ) → descend-lts.Need-same-length-4 (
+  lay-all-reads.Asked,
+  lay-all-reads.Learnt,
+  descend-below t,
+  descend.Post,
+) (descend-at t) descend.Post
+descend-same-length-4 t c = search needs
+
+-- src/layers.rt:235:1
+descend-same-length-5 : (t : ℕ) → descend-lts.Need-same-length-5 (
+  lay-all-reads.Asked,
+  lay-all-reads.Learnt,
+  descend-below t,
+  descend.Post,
+) (descend-at t) descend.Post
+descend-same-length-5 t c = search needs
+
+-- src/layers.rt:235:1
+descend-same-length-6 : (t : ℕ) → descend-lts.Need-same-length-6 (
+  lay-all-reads.Asked,
+  lay-all-reads.Learnt,
+  descend-below t,
+  descend.Post,
+) (descend-at t) descend.Post
+descend-same-length-6 t c = search needs
+
+-- src/layers.rt:235:1
+descend-returns-2 : (t : ℕ) → descend-lts.Need-returns-2 (
+  lay-all-reads.Asked,
+  lay-all-reads.Learnt,
+  descend-below t,
+  descend.Post,
+) (descend-at t) descend.Post
+descend-returns-2 t c = c .before .before .before .before .before .before .before .before .before .before .before .before .descend .ensures
+
+pub +descend-spec : {M : Type 1} → statement M
++descend-spec = close μ-descend λ t. descend-lts.spec (
+  lay-all-reads.Asked,
+  lay-all-reads.Learnt,
+  descend-below t,
+  descend.Post,
+)
+    (descend-at t)
+    descend.Post
+    (descend-returns t)
+    (descend-sub-lay-all t)
+    (descend-lay-all-requires t)
+    (descend-sub-descend t)
+    (descend-descend-requires t)
+    (descend-same-length t)
+    (descend-same-length-2 t)
+    (descend-same-length-3 t)
+    (descend-same-length-4 t)
+    (descend-same-length-5 t)
+    (descend-same-length-6 t)
+    (descend-returns-2 t)

@@ -1,0 +1,388 @@
+// The costs of all configurations before each action of a list, from the last action back; those right after a reset are noted in the memos.
+use crate::bytes;
+use crate::costs;
+use crate::limits::Monitor;
+use crate::sets::bounds;
+ghost use mathlib.Core.Path.{_≡_};
+ghost use mathlib.Core.Bool.{cond};
+ghost use mathlib.Core.List.{[]};
+ghost use Prim.Native.Nat.{_+_, _*_, _≤_, _<_, min};
+ghost use lib.ListN.{length, getD, drop, set};
+ghost use Rattle.enforcement.specs.Automaton.{locations, clocks, transitionAt};
+ghost use Rattle.enforcement.specs.Loading.{Loads, Fits};
+ghost use Rattle.enforcement.specs.Model.{top, width};
+ghost use Rattle.retimer.specs.Costs.{never, Ground};
+ghost use Rattle.retimer.specs.Layers.{cellOf, tick, RowAsked, RowTicked, half, AllTicked, LineAsked, RowLowered, BoxLowered, Now, Laying, Blank, Cleared, Took, LocationLaid, OneLaid, Noting, Full, Ended, LayersOf, Filled};
+
+// A table has the costs of as many locations.
+const HALF: usize = Monitor::COUNT / 2;
+
+const AREA: usize = Monitor::WIDTH * Monitor::WIDTH;
+
+const SIZE: usize = HALF * AREA;
+
+// The lesser of a cost and the one at a place, there.
+fn lower(table: &mut [u16], i: usize, v: u16)
+    requires { ⌜ i < length (now table) ⌝ }
+    ensures { λ _. ⌜ now (table .exit) ≡ set (now (table .entry)) i (min v (getD (now (table .entry)) i 0)) ⌝ }
+{
+    table[i] = costs::better(v, table[i]);
+}
+
+// The last row of a location, which is its own row a tick later: from its end on.
+fn tick_last(table: &mut [u16], here: usize)
+    requires { ⌜ RowAsked here (now table) ⌝ }
+    ensures { λ _. ⌜ RowTicked here here (now (table .entry)) (now (table .exit)) ⌝ }
+{
+    let mut x = Monitor::WIDTH - 1;
+    while 0 < x {
+        let v = table[here + x] + 1;
+        x -= 1;
+        lower(table, here + x, v);
+    }
+}
+
+// Any other row, by the row after it, which is done.
+fn tick_row(table: &mut [u16], here: usize)
+    requires { ⌜ RowAsked (here + width) (now table) ⌝ }
+    ensures { λ _. ⌜ RowTicked here (here + width) (now (table .entry)) (now (table .exit)) ⌝ }
+{
+    let above = here + Monitor::WIDTH;
+    let mut x = 0;
+    while x + 1 < Monitor::WIDTH {
+        let v = table[above + (x + 1)] + 1;
+        lower(table, here + x, v);
+        x += 1;
+    }
+    let v = table[above + x] + 1;
+    lower(table, here + x, v);
+}
+
+// The row y of a location.
+fn tick_at(table: &mut [u16], m: usize, y: usize)
+    requires { ⌜ (Blank m (now table)) × (y ≤ top) ⌝ }
+    ensures { λ _. ⌜ RowTicked (cellOf m 0 y) (cellOf m 0 (tick y)) (now (table .entry)) (now (table .exit)) ⌝ }
+{
+    let here = (m * Monitor::WIDTH + y) * Monitor::WIDTH;
+    if y + 1 < Monitor::WIDTH {
+        tick_row(table, here);
+        return;
+    }
+    tick_last(table, here);
+}
+
+// All rows of a location.
+fn ticks(table: &mut [u16], m: usize)
+    requires { ⌜ Blank m (now table) ⌝ }
+    ensures { λ _. ⌜ AllTicked m (now (table .entry)) (now (table .exit)) ⌝ }
+{
+    let mut y = Monitor::WIDTH;
+    while 0 < y {
+        y -= 1;
+        tick_at(table, m, y);
+    }
+}
+
+// The place of a row's column i, or of its first column.
+fn column(spread: bool, from: usize, i: usize) -> usize
+    requires { ⌜ from + i < half * (width * width) ⌝ }
+    ensures { λ v. ⌜ (v ≡ cond spread from (from + i)) × (v ≤ from + i) ⌝ }
+{
+    if spread { from } else { from + i }
+}
+
+// The columns x up to end of one row: the lesser of each cost and of v.
+fn lower_by(v: u16, table: &mut [u16], to: usize, x: usize, end: usize)
+    requires { ⌜ LineAsked to end (now table) ⌝ }
+    ensures { λ _. ⌜ RowLowered (λ i. v) to x end (now (table .entry)) (now (table .exit)) ⌝ }
+{
+    let mut i = x;
+    while i < end {
+        lower(table, to + i, v);
+        i += 1;
+    }
+}
+
+// The same with the costs of another table's row.
+fn lower_each(other: &[u16], from: usize, table: &mut [u16], to: usize, x: usize, end: usize)
+    requires { ⌜ (LineAsked to end (now table)) × (LineAsked from end (now other)) ⌝ }
+    ensures { λ _. ⌜ RowLowered (λ i. getD (now (other .entry)) (from + i) 0) to x end (now (table .entry)) (now (table .exit)) ⌝ }
+{
+    let mut i = x;
+    while i < end {
+        lower(table, to + i, other[from + i]);
+        i += 1;
+    }
+}
+
+// The same with another table's row, or with its first column where the first clock is reset.
+fn lower_row(
+    other: &[u16],
+    from: usize,
+    spread: bool,
+    table: &mut [u16],
+    to: usize,
+    x: usize,
+    end: usize,
+)
+    requires { ⌜ (LineAsked to end (now table)) × (LineAsked from end (now other)) ⌝ }
+    ensures { λ _. ⌜ RowLowered (λ i. getD (now (other .entry)) (cond spread from (from + i)) 0) to x end (now (table .entry)) (now (table .exit)) ⌝ }
+{
+    if spread {
+        lower_by(other[from], table, to, x, end);
+        return;
+    }
+    lower_each(other, from, table, to, x, end);
+}
+
+// The costs of a location, where the transition at p is enabled: the lesser of each and of that in another table, to which it leads.
+fn lower_box(s: &[u8], p: usize, other: &[u16], t: usize, table: &mut [u16], m: usize)
+    requires { ⌜ ((p + 7 ≤ length (now s)) × (Fits (now s) (transitionAt (now s) p))) × (((t < half) × (length (now other) ≡ half * (width * width))) × ((m < half) × (length (now table) ≡ half * (width * width)))) ⌝ }
+    ensures { λ _. ⌜ BoxLowered (transitionAt (now (s .entry)) p) (now (other .entry)) t m (now (table .entry)) (now (table .exit)) ⌝ }
+{
+    let set = s[p + 2];
+    let x = bytes::wide(s[p + 3]);
+    let end = bounds::past(s[p + 4]);
+    let last = bounds::past(s[p + 6]);
+    let mut y = bytes::wide(s[p + 5]);
+    while y < last {
+        let row = column(set / 2 == 1, 0, y);
+        lower_row(
+            other,
+            (t * Monitor::WIDTH + row) * Monitor::WIDTH,
+            set % 2 == 1,
+            table,
+            (m * Monitor::WIDTH + y) * Monitor::WIDTH,
+            x,
+            end,
+        );
+        y += 1;
+    }
+}
+
+// The transition at p, if it is for the action k.
+fn rule(
+    s: &[u8],
+    cs: &[u8],
+    k: usize,
+    p: usize,
+    low: &[u16],
+    high: &[u16],
+    table: &mut [u16],
+    m: usize,
+)
+    requires { ⌜ (Laying (now s) (now cs) k (now low) (now high)) × (((p + 7 ≤ length (now s)) × (Fits (now s) (transitionAt (now s) p))) × (Blank m (now table))) ⌝ }
+    ensures { λ _. ⌜ Took (λ x y w. Now (now (s .entry)) (getD (now (cs .entry)) k 0) (drop (k + 1) (now (cs .entry))) w x y (transitionAt (now (s .entry)) p)) m (now (table .entry)) (now (table .exit)) ⌝ }
+{
+    if s[p] != cs[k] {
+        return;
+    }
+    let t = bytes::wide(s[p + 1]);
+    if t < HALF {
+        lower_box(s, p, low, t, table, m);
+        return;
+    }
+    lower_box(s, p, high, t - HALF, table, m);
+}
+
+// The same cost everywhere at a location.
+fn clear(table: &mut [u16], m: usize, c: u16)
+    requires { ⌜ (Blank m (now table)) × (c ≤ never) ⌝ }
+    ensures { λ _. ⌜ Cleared m c (now (table .entry)) (now (table .exit)) ⌝ }
+{
+    let mut i = m * AREA;
+    let end = i + AREA;
+    while i < end {
+        table[i] = c;
+        i += 1;
+    }
+}
+
+// The costs of a location from the action k on.
+fn lay(
+    s: &[u8],
+    cs: &[u8],
+    k: usize,
+    l: usize,
+    low: &[u16],
+    high: &[u16],
+    table: &mut [u16],
+    m: usize,
+)
+    requires { ⌜ (Laying (now s) (now cs) k (now low) (now high)) × ((l < locations (now s)) × (Blank m (now table))) ⌝ }
+    ensures { λ _. ⌜ LocationLaid (now (s .entry)) (drop k (now (cs .entry))) l m (now (table .entry)) (now (table .exit)) ⌝ }
+{
+    clear(table, m, costs::NEVER);
+    let pair = 6 + 4 * l;
+    let mut p = bytes::word_at(s, pair);
+    let end = p + bytes::word_at(s, pair + 2);
+    while p < end {
+        rule(s, cs, k, p, low, high, table, m);
+        p += 7;
+    }
+    ticks(table, m);
+}
+
+// The costs of a location from the action k on, and those right after a reset in the memos.
+fn lay_and_note(
+    s: &[u8],
+    cs: &[u8],
+    k: usize,
+    l: usize,
+    low: &[u16],
+    high: &[u16],
+    table: &mut [u16],
+    m: usize,
+    first: &mut [u16],
+    second: &mut [u16],
+)
+    requires { ⌜ ((Laying (now s) (now cs) k (now low) (now high)) × (1 ≤ k)) × (((l < locations (now s)) × (Blank m (now table))) × (Ground (now s) (now cs) (now first) (now second))) ⌝ }
+    ensures { λ _. ⌜ (LocationLaid (now (s .entry)) (drop k (now (cs .entry))) l m (now (table .entry)) (now (table .exit))) × (Noting (now (s .entry)) (now (cs .entry)) k l (now (first .entry)) (now (second .entry)) (now (first .exit)) (now (second .exit))) ⌝ }
+{
+    lay(s, cs, k, l, low, high, table, m);
+    let base = ((k - 1) * Monitor::COUNT + l) * Monitor::WIDTH;
+    let mut z = 0;
+    while z < Monitor::WIDTH {
+        first[base + z] = table[(m * Monitor::WIDTH + z) * Monitor::WIDTH] + 1;
+        second[base + z] = table[m * AREA + z] + 1;
+        z += 1;
+    }
+}
+
+// The costs of a location from the action k on, in its table.
+fn lay_one(
+    s: &[u8],
+    cs: &[u8],
+    k: usize,
+    l: usize,
+    low: &[u16],
+    high: &[u16],
+    newlow: &mut [u16],
+    newhigh: &mut [u16],
+    first: &mut [u16],
+    second: &mut [u16],
+)
+    requires { ⌜ ((Laying (now s) (now cs) k (now low) (now high)) × ((1 ≤ k) × (l < locations (now s)))) × (((Blank 0 (now newlow)) × (Blank 0 (now newhigh))) × (Ground (now s) (now cs) (now first) (now second))) ⌝ }
+    ensures { λ _. ⌜ (OneLaid (now (s .entry)) (drop k (now (cs .entry))) l (now (newlow .entry)) (now (newhigh .entry)) (now (newlow .exit)) (now (newhigh .exit))) × (((length (now (first .exit)) ≡ length (now (first .entry))) × (length (now (second .exit)) ≡ length (now (second .entry)))) × (Noting (now (s .entry)) (now (cs .entry)) k l (now (first .entry)) (now (second .entry)) (now (first .exit)) (now (second .exit)))) ⌝ }
+{
+    if l < HALF {
+        lay_and_note(s, cs, k, l, low, high, newlow, l, first, second);
+        return;
+    }
+    lay_and_note(s, cs, k, l, low, high, newhigh, l - HALF, first, second);
+}
+
+// The costs of all locations from the action k on.
+fn lay_all(
+    s: &[u8],
+    cs: &[u8],
+    k: usize,
+    low: &[u16],
+    high: &[u16],
+    newlow: &mut [u16],
+    newhigh: &mut [u16],
+    first: &mut [u16],
+    second: &mut [u16],
+)
+    requires { ⌜ ((Laying (now s) (now cs) k (now low) (now high)) × (1 ≤ k)) × (((Blank 0 (now newlow)) × (Blank 0 (now newhigh))) × ((Ground (now s) (now cs) (now first) (now second)) × (Full (now s) (now cs) (k + 1) (now first) (now second)))) ⌝ }
+    ensures { λ _. ⌜ LayersOf (now (s .entry)) (now (cs .entry)) k (now (newlow .exit)) (now (newhigh .exit)) (now (first .exit)) (now (second .exit)) ⌝ }
+{
+    let mut l = 0;
+    while l < bytes::wide(s[0]) {
+        lay_one(s, cs, k, l, low, high, newlow, newhigh, first, second);
+        l += 1;
+    }
+}
+
+// The costs of a location where all is played, in its table.
+fn end_one(s: &[u8], l: usize, low: &mut [u16], high: &mut [u16])
+    requires { ⌜ ((Loads (now s)) × (l < locations (now s))) × ((Blank 0 (now low)) × (Blank 0 (now high))) ⌝ }
+    ensures { λ _. ⌜ OneLaid (now (s .entry)) [] l (now (low .entry)) (now (high .entry)) (now (low .exit)) (now (high .exit)) ⌝ }
+{
+    let c = costs::ending(s, l as u8);
+    if l < HALF {
+        clear(low, l, c);
+        return;
+    }
+    clear(high, l - HALF, c);
+}
+
+// The costs of all locations where all is played.
+fn end_all(s: &[u8], low: &mut [u16], high: &mut [u16])
+    requires { ⌜ (Loads (now s)) × ((Blank 0 (now low)) × (Blank 0 (now high))) ⌝ }
+    ensures { λ _. ⌜ Ended (now (s .entry)) (now (low .exit)) (now (high .exit)) ⌝ }
+{
+    let mut l = 0;
+    while l < bytes::wide(s[0]) {
+        end_one(s, l, low, high);
+        l += 1;
+    }
+}
+
+// From the tables for the action k, the costs right after a reset before it and all earlier ones.
+fn descend(
+    s: &[u8],
+    cs: &[u8],
+    k: usize,
+    low: &mut [u16],
+    high: &mut [u16],
+    newlow: &mut [u16],
+    newhigh: &mut [u16],
+    first: &mut [u16],
+    second: &mut [u16],
+)
+    requires { ⌜ ((LayersOf (now s) (now cs) k (now low) (now high) (now first) (now second)) × (k ≤ length (now cs))) × ((Blank 0 (now newlow)) × (Blank 0 (now newhigh))) ⌝ }
+    ensures { λ _. ⌜ Filled (now (s .entry)) (now (cs .entry)) (now (first .exit)) (now (second .exit)) ⌝ }
+{
+    if k <= 1 {
+        return;
+    }
+    lay_all(s, cs, k - 1, low, high, newlow, newhigh, first, second);
+    descend(s, cs, k - 1, newlow, newhigh, low, high, first, second);
+}
+
+// Each table has a frame of its own, as a memo has: the function calls itself with one more table, until there are four.
+fn with_tables(
+    s: &[u8],
+    cs: &[u8],
+    n: usize,
+    low: &mut [u16],
+    high: &mut [u16],
+    newlow: &mut [u16],
+    first: &mut [u16],
+    second: &mut [u16],
+)
+    requires { ⌜ ((Ground (now s) (now cs) (now first) (now second)) × (n ≤ 3)) × ((1 ≤ n → Blank 0 (now low)) × ((2 ≤ n → Blank 0 (now high)) × (3 ≤ n → Blank 0 (now newlow)))) ⌝ }
+    ensures { λ _. ⌜ Filled (now (s .entry)) (now (cs .entry)) (now (first .exit)) (now (second .exit)) ⌝ }
+{
+    let mut own = [0u16; SIZE];
+    if n == 0 {
+        with_tables(s, cs, 1, &mut own, high, newlow, first, second);
+        return;
+    }
+    if n == 1 {
+        with_tables(s, cs, 2, low, &mut own, newlow, first, second);
+        return;
+    }
+    if n == 2 {
+        with_tables(s, cs, 3, low, high, &mut own, first, second);
+        return;
+    }
+    end_all(s, low, high);
+    descend(s, cs, cs.len(), low, high, newlow, &mut own, first, second);
+}
+
+// The costs right after a reset before each action but the first, all of them, in the memos. With one clock a reset leads to one configuration of a location: the search meets few of
+// them, and nothing is done.
+pub fn layers(s: &[u8], cs: &[u8], first: &mut [u16], second: &mut [u16])
+    requires { ⌜ Ground (now s) (now cs) (now first) (now second) ⌝ }
+    ensures { λ _. ⌜ (Ground (now (s .entry)) (now (cs .entry)) (now (first .exit)) (now (second .exit))) × (clocks (now (s .entry)) ≡ 2 → Full (now (s .entry)) (now (cs .entry)) 1 (now (first .exit)) (now (second .exit))) ⌝ }
+{
+    if s[1] == 1 {
+        return;
+    }
+    let mut low = [0u16; 0];
+    let mut high = [0u16; 0];
+    let mut newlow = [0u16; 0];
+    with_tables(s, cs, 0, &mut low, &mut high, &mut newlow, first, second);
+}
