@@ -281,6 +281,7 @@ fn heaviest_plans() {
         ("many states, scheduled", 30),
         ("late correction, scheduled", 400),
         ("worst plan found", 30),
+        ("worst waits found", 450),
     ] {
         let inputs = kind(name).inputs(1);
         let answers = replay(&inputs[0]);

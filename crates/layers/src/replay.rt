@@ -5,8 +5,9 @@ use marking::block;
 use marking::desk;
 use report::line;
 use retimer::limits::Monitor;
-use retimer::monitor::Answer;
+use retimer::limits::State;
 use retimer::replay;
+use retimer::state::Answer;
 
 fn print_answer(a: Answer) {
     let mut out = [0u8; line::LINE];
@@ -15,9 +16,9 @@ fn print_answer(a: Answer) {
 }
 
 // The scheduled commands with their dates.
-fn print_schedule(b: Monitor) {
-    let slots = b.schedule;
-    let n = b.planned;
+fn print_schedule(q: State) {
+    let slots = q.schedule;
+    let n = q.planned;
     let mut i: usize = 0;
     while i < n {
         if Monitor::SCHEDULED <= i {
@@ -31,23 +32,23 @@ fn print_schedule(b: Monitor) {
 }
 
 // The location, the readings and the date last reached.
-fn print_last(b: Monitor) {
-    let r = b.readings;
+fn print_last(q: State) {
+    let r = q.readings;
     if r.len() == 2 {
-        print::configuration(b.location, r[0], r[1]);
+        print::configuration(q.location, r[0], r[1]);
     }
-    print::date(b.last);
+    print::date(q.last);
 }
 
-fn print_box(b: Monitor) {
+fn print_state(q: State) {
     print::word(b"; date");
-    print::date(b.date);
+    print::date(q.date);
     print::word(b"; held");
-    print::number(b.held as u64);
+    print::number(q.held as u64);
     print::word(b"; schedule");
-    print_schedule(b);
+    print_schedule(q);
     print::word(b"; last");
-    print_last(b);
+    print_last(q);
     print::word(b"\n");
 }
 
@@ -59,10 +60,11 @@ fn replay(title: &[u8], sheet: &[u8], text: &[u8]) {
     let checked = r.checked;
     let answer = r.answer;
     let b = r.monitor;
+    let q = b.state;
     print::word(title);
     desk::print_checked(checked);
     print_answer(answer);
-    print_box(b);
+    print_state(q);
 }
 
 // Questions P1 to P10.

@@ -20,15 +20,17 @@ use Rattle.report.specs.Lines.{outcomeText, answerText, callLine, lampText, tai
 use Rattle.report.proofs.Numerals.{numeral-few}
 use Rattle.report.proofs.LineLaws.{answer-few, tail-few}
 use Rattle.report.proofs.Writing.{next, as-text, writes-none}
+use Rattle.retimer.specs.declared.limits.State.{State}
 use Rattle.retimer.specs.declared.limits.Monitor.{Monitor}
-use Rattle.retimer.specs.declared.monitor.Answer.{Answer}
-use Rattle.retimer.specs.declared.monitor.Answer.the-variants.{Scheduled, Held, Dropped, Played, Nothing, Lit, Dark, Refused}
-use Rattle.retimer.specs.declared.monitor.Answered.{Answered}
+use Rattle.retimer.specs.declared.state.Answer.{Answer}
+use Rattle.retimer.specs.declared.state.Answer.the-variants.{Scheduled, Held, Dropped, Played, Nothing, Lit, Dark, Refused}
+use Rattle.retimer.specs.declared.state.Moved.{Moved}
 use Rattle.retimer.specs.Optimum.{modelOf}
-use Rattle.retimer.specs.View.{bytesOf, viewOf, Valid}
-use Rattle.retimer.specs.Calls.{outcomeOf, answeredOf, CallRight}
+use Rattle.retimer.specs.View.{bytesOf, view, viewOf, StateValid, Sound, Valid}
+use Rattle.retimer.specs.Calls.{outcomeOf, movedOf, withState, MoveRight}
 use Rattle.retimer.specs.Replay.{callAt, callsFrom, callsOf}
-use Rattle.marking.specs.Marks.{isLitOutcome, lineOf, linesOf, MarkRight}
+use Rattle.retimer.proofs.CallLaws.{valid-state, valid-box}
+use Rattle.marking.specs.Marks.{lineOf, linesOf, MarkRight}
 
 -- ---- One line
 
@@ -43,9 +45,12 @@ held-text Lit h e = refl
 held-text Dark h e = refl
 held-text (Refused r) h e = refl
 
-lit-chosen : (x : Bool) → isLitOutcome (cond x lit dark) ≡ x
-lit-chosen true = refl
-lit-chosen false = refl
+-- The answer tells whether the lamp is lit.
+lit-told : (x y : Bool) → outcomeOf (cond x Lit Dark) ≡ cond y lit dark → x ≡ y
+lit-told true true e = refl
+lit-told true false e = let z : _≡_ {A = ℕ} 0 1 = cc in absurd (omega arith)
+lit-told false true e = let z : _≡_ {A = ℕ} 0 1 = cc in absurd (omega arith)
+lit-told false false e = refl
 
 lamp-few : (x : Bool) → length (lampText x) ≡ 8
 lamp-few true = refl
@@ -64,25 +69,25 @@ line-few n a x =
     )
 
 -- The line of a call and the lamp after it is the model's.
-module _ (m : Compiled) (b : model.Monitor) (k : Call) (r q : Answered) (n : ℕ) (is : answeredOf r ≡ answer m b k) (held-count : (h : ℕ) → r .answer ≡ Held h → h ≡ length (viewOf (r .monitor) .pending))
-    (light : answeredOf q ≡ answer m (viewOf (r .monitor)) lamp) where
+module _ (m : Compiled) (b : model.Monitor) (k : Call) (r : Moved) (x : Bool) (n : ℕ) (is : movedOf r ≡ answer m b k) (held-count : (h : ℕ) → r .answer ≡ Held h → h ≡ length (view (r .state) .pending))
+    (light : movedOf (record { state = r .state; answer = cond x Lit Dark }) ≡ answer m (view (r .state)) lamp) where
   text-is : answerText (r .answer) ≡ outcomeText (length (answer m b k .monitor .pending)) (answer m b k .outcome)
-  text-is = held-text (r .answer) (length (viewOf (r .monitor) .pending)) held-count ∙ ap (λ (w : model.Answered). outcomeText (length (w .monitor .pending)) (w .outcome)) is
+  text-is = held-text (r .answer) (length (view (r .state) .pending)) held-count ∙ ap (λ (w : model.Answered). outcomeText (length (w .monitor .pending)) (w .outcome)) is
 
-  light-is : isLitOutcome (outcomeOf (q .answer)) ≡ lampLit m (answer m b k .monitor)
+  light-is : x ≡ lampLit m (answer m b k .monitor)
   unfolding answer
-  light-is = ap (λ (w : model.Answered). isLitOutcome (w .outcome)) light ∙ lit-chosen (lampLit m (viewOf (r .monitor))) ∙ ap (λ (w : model.Answered). lampLit m (w .monitor)) is
+  light-is = lit-told x (lampLit m (view (r .state))) (ap (λ (w : model.Answered). w .outcome) light) ∙ ap (λ (w : model.Answered). lampLit m (w .monitor)) is
 
-  pub line-is : callLine (n + 1) (answerText (r .answer)) (isLitOutcome (outcomeOf (q .answer))) ≡ lineOf m (suc n) (answer m b k)
+  pub line-is : callLine (n + 1) (answerText (r .answer)) x ≡ lineOf m (suc n) (answer m b k)
   line-is =
-      ap (λ (j : ℕ). callLine j (answerText (r .answer)) (isLitOutcome (outcomeOf (q .answer)))) (add-one n)
-      ∙ ap (λ (t : List ℕ). callLine (suc n) t (isLitOutcome (outcomeOf (q .answer)))) text-is
-      ∙ ap (λ (x : Bool). callLine (suc n) (outcomeText (length (answer m b k .monitor .pending)) (answer m b k .outcome)) x) light-is
+      ap (λ (j : ℕ). callLine j (answerText (r .answer)) x) (add-one n)
+      ∙ ap (λ (t : List ℕ). callLine (suc n) t x) text-is
+      ∙ ap (callLine (suc n) (outcomeText (length (answer m b k .monitor .pending)) (answer m b k .outcome))) light-is
 
 -- ---- The loop
 
 -- Calls made so far, their lines at the front of the buffer, and the lines that are still to come.
-pub record Marking (start : Monitor) (s : Bytes) (n : ℕ) (before out : List ℕ) (b : Monitor) (made end i : ℕ) : Type 0 where
+pub record Marking (start : Monitor) (s : Bytes) (n : ℕ) (before out : List ℕ) (q : State) (made end i : ℕ) : Type 0 where
   pub done : ℕ
   pub place : i ≡ 5 * done
   pub inside : done ≤ length s / 5
@@ -90,16 +95,15 @@ pub record Marking (start : Monitor) (s : Bytes) (n : ℕ) (before out : List �
   pub text : List ℕ
   pub wrote : Wrote before 0 text out end
   pub few : end ≤ 80 * done
-  pub lines : text ++ linesOf (modelOf (bytesOf start)) (viewOf b) made (callsFrom s (length s / 5 - done) i) ≡ linesOf (modelOf (bytesOf start)) (viewOf start) n (callsOf s)
-  pub monitor : replay (modelOf (bytesOf start)) (viewOf b) (callsFrom s (length s / 5 - done) i) .monitor ≡ replay (modelOf (bytesOf start)) (viewOf start) (callsOf s) .monitor
-  pub valid : Valid b
-  pub sheet : bytesOf b ≡ bytesOf start
+  pub lines : text ++ linesOf (modelOf (bytesOf start)) (view q) made (callsFrom s (length s / 5 - done) i) ≡ linesOf (modelOf (bytesOf start)) (viewOf start) n (callsOf s)
+  pub monitor : replay (modelOf (bytesOf start)) (view q) (callsFrom s (length s / 5 - done) i) .monitor ≡ replay (modelOf (bytesOf start)) (viewOf start) (callsOf s) .monitor
+  pub valid : StateValid (bytesOf start) (start .live) q
   pub sized : length out ≡ length before
 
 none-done : (x : ℕ) → x - 0 ≡ x
 none-done x = omega arith
 
-pub begins : (start : Monitor) (s : Bytes) (n : ℕ) (x : List ℕ) → Valid start → Marking start s n x x start n 0 0
+pub begins : (start : Monitor) (s : Bytes) (n : ℕ) (x : List ℕ) → Valid start → Marking start s n x x (start .state) n 0 0
 begins start s n x v = record {
   done = 0;
   place = refl;
@@ -110,8 +114,7 @@ begins start s n x v = record {
   few = omega arith;
   lines = ap (λ (k : ℕ). linesOf (modelOf (bytesOf start)) (viewOf start) n (callsFrom s k 0)) (none-done (length s / 5));
   monitor = ap (λ (k : ℕ). replay (modelOf (bytesOf start)) (viewOf start) (callsFrom s k 0) .monitor) (none-done (length s / 5));
-  valid = v;
-  sheet = refl;
+  valid = valid-state v;
   sized = refl;
 }
 
@@ -124,7 +127,7 @@ module _ (s : Bytes) where
   rest-few = mod-lt (length s) (lit< tt)
 
 -- One call.
-module _ {start : Monitor} {s : Bytes} {n : ℕ} {before out : List ℕ} {b : Monitor} {made end i : ℕ} (g : Marking start s n before out b made end i) (here : i + 5 ≤ length s) where
+module _ {start : Monitor} {s : Bytes} {n : ℕ} {before out : List ℕ} {q : State} {made end i : ℕ} (g : Marking start s n before out q made end i) (here : i + 5 ≤ length s) where
   pub one-more : g .done < length s / 5
   one-more = omega (arith, g .place, parts s, rest-few s)
 
@@ -141,38 +144,38 @@ module _ {start : Monitor} {s : Bytes} {n : ℕ} {before out : List ℕ} {b : Mo
   unfolding callsFrom k
   unrolled = ap (λ (j : ℕ). callsFrom s j i) left
 
-  module _ (r q : Answered) (right : CallRight b (callAt s i) r) (lamp-right : CallRight (r .monitor) lamp q) (same : q .monitor ≡ r .monitor) where
-    is : answeredOf r ≡ answer m (viewOf b) k
+  module _ {r : Moved} (x : Bool) (right : MoveRight (bytesOf start) (start .live) q (callAt s i) r) (lamp-right : MoveRight (bytesOf start) (start .live) (r .state) lamp (record { state = r .state; answer = cond x Lit Dark })) where
+    is : movedOf r ≡ answer m (view q) k
     unfolding m k
-    is = right .is ∙ ap (λ (x : Bytes). answer (modelOf x) (viewOf b) (callAt s i)) (g .sheet)
+    is = right .is
 
-    light : answeredOf q ≡ answer m (viewOf (r .monitor)) lamp
+    light : movedOf (record { state = r .state; answer = cond x Lit Dark }) ≡ answer m (view (r .state)) lamp
     unfolding m
-    light = lamp-right .is ∙ ap (λ (x : Bytes). answer (modelOf x) (viewOf (r .monitor)) lamp) (right .same-sheet ∙ g .sheet)
+    light = lamp-right .is
 
-    view-is : viewOf (q .monitor) ≡ answer m (viewOf b) k .monitor
-    view-is = ap viewOf same ∙ ap (λ (w : model.Answered). w .monitor) is
+    view-is : view (r .state) ≡ answer m (view q) k .monitor
+    view-is = ap (λ (w : model.Answered). w .monitor) is
 
     line : List ℕ
-    line = callLine (made + 1) (answerText (r .answer)) (isLitOutcome (outcomeOf (q .answer)))
+    line = callLine (made + 1) (answerText (r .answer)) x
 
-    lines-split : linesOf m (viewOf b) made (callsFrom s (length s / 5 - g .done) i) ≡ line ++ linesOf m (viewOf (q .monitor)) (made + 1) (callsFrom s (length s / 5 - (g .done + 1)) (i + 5))
+    lines-split : linesOf m (view q) made (callsFrom s (length s / 5 - g .done) i) ≡ line ++ linesOf m (view (r .state)) (made + 1) (callsFrom s (length s / 5 - (g .done + 1)) (i + 5))
     unfolding linesOf line
     lines-split =
-        ap (linesOf m (viewOf b) made) unrolled
-        ∙ ap (λ (t : List ℕ). t ++ linesOf m (answer m (viewOf b) k .monitor) (suc made) (callsFrom s (length s / 5 - (g .done + 1)) (i + 5))) (sym (line-is m (viewOf b) k r q made is (right .held-count) light))
+        ap (linesOf m (view q) made) unrolled
+        ∙ ap (λ (t : List ℕ). t ++ linesOf m (answer m (view q) k .monitor) (suc made) (callsFrom s (length s / 5 - (g .done + 1)) (i + 5))) (sym (line-is m (view q) k r x made is (right .held-count) light))
         ∙ ap (λ (v : model.Monitor). line ++ linesOf m v (suc made) (callsFrom s (length s / 5 - (g .done + 1)) (i + 5))) (sym view-is)
-        ∙ ap (λ (j : ℕ). line ++ linesOf m (viewOf (q .monitor)) j (callsFrom s (length s / 5 - (g .done + 1)) (i + 5))) (sym (add-one made))
+        ∙ ap (λ (j : ℕ). line ++ linesOf m (view (r .state)) j (callsFrom s (length s / 5 - (g .done + 1)) (i + 5))) (sym (add-one made))
 
-    monitor-split : replay m (viewOf b) (callsFrom s (length s / 5 - g .done) i) .monitor ≡ replay m (viewOf (q .monitor)) (callsFrom s (length s / 5 - (g .done + 1)) (i + 5)) .monitor
+    monitor-split : replay m (view q) (callsFrom s (length s / 5 - g .done) i) .monitor ≡ replay m (view (r .state)) (callsFrom s (length s / 5 - (g .done + 1)) (i + 5)) .monitor
     unfolding replay
     monitor-split =
-        ap (λ (ks : List Call). replay m (viewOf b) ks .monitor) unrolled
+        ap (λ (ks : List Call). replay m (view q) ks .monitor) unrolled
         ∙ ap (λ (v : model.Monitor). replay m v (callsFrom s (length s / 5 - (g .done + 1)) (i + 5)) .monitor) (sym view-is)
 
     pub goes-on : {out′ : List ℕ} {end′ : ℕ} → 80 * (length s / 5) + 80 ≤ length before
-        → Wrote out end (callLine (made + 1) (answerText (r .answer)) (isLitOutcome (outcomeOf (q .answer)))) out′ end′ → length out′ ≡ length out
-        → Marking start s n before out′ (q .monitor) (made + 1) end′ (i + 5)
+        → Wrote out end (callLine (made + 1) (answerText (r .answer)) x) out′ end′ → length out′ ≡ length out
+        → Marking start s n before out′ (r .state) (made + 1) end′ (i + 5)
     unfolding m line
     goes-on {out′} {end′} room wrote kept = record {
       done = g .done + 1;
@@ -181,16 +184,15 @@ module _ {start : Monitor} {s : Bytes} {n : ℕ} {before out : List ℕ} {b : Mo
       made-is = omega (arith, g .made-is);
       text = g .text ++ line;
       wrote = next (omega (arith, g .few, g .inside)) (g .wrote) wrote;
-      few = omega (arith, wrote .ends, g .few, line-few (made + 1) (r .answer) (isLitOutcome (outcomeOf (q .answer))));
+      few = omega (arith, wrote .ends, g .few, line-few (made + 1) (r .answer) x);
       lines = append-assoc (g .text) line _ ∙ ap (λ (t : List ℕ). g .text ++ t) (sym lines-split) ∙ g .lines;
       monitor = sym monitor-split ∙ g .monitor;
-      valid = lamp-right .valid;
-      sheet = lamp-right .same-sheet ∙ right .same-sheet ∙ g .sheet;
+      valid = right .valid;
       sized = kept ∙ g .sized;
     }
 
 -- The end: what is left over.
-module _ {start : Monitor} {s : Bytes} {n : ℕ} {before out : List ℕ} {b : Monitor} {made end i : ℕ} (g : Marking start s n before out b made end i) (over : length s < i + 5) where
+module _ {start : Monitor} {s : Bytes} {n : ℕ} {before out : List ℕ} {q : State} {made end i : ℕ} (g : Marking start s n before out q made end i) (over : length s < i + 5) where
   all-done : g .done ≡ length s / 5
   all-done = omega (arith, g .place, g .inside, parts s, rest-few s)
 
@@ -202,21 +204,21 @@ module _ {start : Monitor} {s : Bytes} {n : ℕ} {before out : List ℕ} {b : Mo
 
   text-all : g .text ≡ linesOf (modelOf (bytesOf start)) (viewOf start) n (callsOf s)
   unfolding linesOf callsFrom
-  text-all = sym (append-nil (g .text)) ∙ ap (λ (j : ℕ). g .text ++ linesOf (modelOf (bytesOf start)) (viewOf b) made (callsFrom s j i)) (sym none-left) ∙ g .lines
+  text-all = sym (append-nil (g .text)) ∙ ap (λ (j : ℕ). g .text ++ linesOf (modelOf (bytesOf start)) (view q) made (callsFrom s j i)) (sym none-left) ∙ g .lines
 
-  monitor-all : viewOf b ≡ replay (modelOf (bytesOf start)) (viewOf start) (callsOf s) .monitor
+  monitor-all : view q ≡ replay (modelOf (bytesOf start)) (viewOf start) (callsOf s) .monitor
   unfolding replay callsFrom
-  monitor-all = ap (λ (j : ℕ). replay (modelOf (bytesOf start)) (viewOf b) (callsFrom s j i) .monitor) (sym none-left) ∙ g .monitor
+  monitor-all = ap (λ (j : ℕ). replay (modelOf (bytesOf start)) (view q) (callsFrom s j i) .monitor) (sym none-left) ∙ g .monitor
 
-  pub finishes : {out′ : List ℕ} {size : ℕ} → 80 * (length s / 5) + 80 ≤ length before → Wrote out end (tailLine (length s - i)) out′ size → length out′ ≡ length out
-      → MarkRight start s n before out′ (record { monitor = b; calls = made; size = size })
-  finishes {out′} {size} room wrote kept =
+  pub finishes : {out′ : List ℕ} {size : ℕ} → Sound start → 80 * (length s / 5) + 80 ≤ length before → Wrote out end (tailLine (length s - i)) out′ size → length out′ ≡ length out
+      → MarkRight start s n before out′ (record { monitor = withState start q; calls = made; size = size })
+  finishes {out′} {size} f room wrote kept =
       let fits : size ≤ length out′ = omega (arith, wrote .ends, g .few, g .inside, g .sized, kept, tail-few (length s - i)) in
       record {
         wrote = as-text (next (omega (arith, g .few, g .inside)) (g .wrote) wrote) (ap (λ (t : List ℕ). t ++ tailLine (length s - i)) text-all ∙ ap (λ (j : ℕ). linesOf (modelOf (bytesOf start)) (viewOf start) n (callsOf s) ++ tailLine j) left-over);
         counts = (fits, sym (length-take-le size out′ fits));
         calls-are = omega (arith, g .made-is, all-done);
         monitor-is = monitor-all;
-        valid = g .valid;
-        same-sheet = g .sheet;
+        valid = valid-box f (g .valid);
+        same-sheet = refl;
       }

@@ -1,6 +1,6 @@
 -- What marking a list of calls writes, from the model of the box.
 use mathlib.Core.Path.{_≡_}
-use mathlib.Core.Bool.{Bool, true, false, cond, _||_}
+use mathlib.Core.Bool.{cond, _||_}
 use mathlib.Core.List.{List, [], _∷_, _++_}
 use Prim.Native.Nat.{ℕ, suc, _+_, _/_, _%_}
 use lib.Dec.{ltb}
@@ -9,7 +9,7 @@ use Rattle.enforcement.specs.Limits.{maxSize}
 use Rattle.enforcement.specs.Automaton.{Bytes, automaton, word}
 use Rattle.enforcement.specs.Loading.{check}
 use Rattle.enforcement.specs.Loading as loading
-use Rattle.enforcement.specs.History.{Call, Outcome, scheduled, held, dropped, played, nothing, lit, dark, refused}
+use Rattle.enforcement.specs.History.{Call}
 use Rattle.enforcement.specs.Model.{Compiled}
 use Rattle.enforcement.specs.Monitor.{freshMonitor, lampLit, answer, replay}
 use Rattle.enforcement.specs.Monitor as model
@@ -21,17 +21,6 @@ use Rattle.retimer.specs.Optimum.{modelOf}
 use Rattle.retimer.specs.View.{bytesOf, viewOf, Valid}
 use Rattle.retimer.specs.Replay.{callsOf}
 use Rattle.marking.specs.declared.block.Marked.{Marked}
-
--- The outcome is "lit".
-abbrev pub isLitOutcome : Outcome → Bool
-isLitOutcome (scheduled n d) = false
-isLitOutcome held = false
-isLitOutcome dropped = false
-isLitOutcome (played c d) = false
-isLitOutcome nothing = false
-isLitOutcome lit = true
-isLitOutcome dark = false
-isLitOutcome (refused r) = false
 
 -- The line of the call number n: what it answers, with the held list's length, and the lamp after it.
 abbrev pub lineOf : Compiled → ℕ → model.Answered → List ℕ

@@ -1,14 +1,11 @@
 // A block of calls on a box, and its lines.
 use report::line;
 use retimer::limits::Monitor;
-use retimer::monitor::Answer;
 use retimer::replay;
-ghost use mathlib.Core.Path.{_≡_};
 ghost use Prim.Native.Nat.{_+_, _*_, _/_, _^_, _≤_, _<_};
 ghost use lib.ListN.{length};
 ghost use Rattle.retimer.specs.View.{Valid};
-ghost use Rattle.retimer.specs.Calls.{outcomeOf};
-ghost use Rattle.marking.specs.Marks.{isLitOutcome, MarkRight};
+ghost use Rattle.marking.specs.Marks.{MarkRight};
 
 // The bytes of a call, the most calls of a block, and the room for their lines and one more.
 pub const CALL: usize = 5;
@@ -26,46 +23,31 @@ pub struct Marked {
     pub size: usize,
 }
 
-// Whether a lamp call's answer is "lit".
-fn is_lit(a: Answer) -> bool
-    ensures { λ b. ⌜ b ≡ isLitOutcome (outcomeOf a) ⌝ }
-{
-    match a {
-        Answer::Scheduled { count: _, last: _ } => false,
-        Answer::Held(_) => false,
-        Answer::Dropped => false,
-        Answer::Played { action: _, date: _ } => false,
-        Answer::Nothing => false,
-        Answer::Lit => true,
-        Answer::Dark => false,
-        Answer::Refused(_) => false,
-    }
-}
-
 // Makes the whole calls of a block, where n calls came before, and writes their lines; bytes left over have a line too.
 pub fn mark(start: Monitor, calls: &[u8], n: u64, out: &mut [u8]) -> Marked
     requires { ⌜ (Valid start) × ((n + length (now calls) / 5 < 2 ^ 64) × (80 * (length (now calls) / 5) + 80 ≤ length (now out))) ⌝ }
     ensures { λ r. ⌜ MarkRight start (now (calls .entry)) n (now (out .entry)) (now (out .exit)) r ⌝ }
 {
-    let mut b = start;
+    let size = start.size;
+    let sheet: &[u8] = &start.bytes;
+    let live: &[u8] = &start.live;
+    let mut state = start.state;
     let mut made = n;
     let mut end: usize = 0;
     let mut i: usize = 0;
     while i + CALL <= calls.len() {
-        let called = replay::call_at(b, calls, i);
+        let called = replay::call_at(&sheet[..size], live, state, calls, i);
         let answer = called.answer;
-        let after = called.monitor;
-        let lamp = after.lamp();
-        let light = lamp.answer;
-        b = lamp.monitor;
+        state = called.state;
+        let lit = state.is_lit(&sheet[..size], live);
         made += 1;
-        end = line::call_line(out, end, made, answer, is_lit(light));
+        end = line::call_line(out, end, made, answer, lit);
         i += CALL;
     }
-    let size = line::tail_line(out, end, calls.len() - i);
+    let written = line::tail_line(out, end, calls.len() - i);
     Marked {
-        monitor: b,
+        monitor: start.with_state(state),
         calls: made,
-        size,
+        size: written,
     }
 }

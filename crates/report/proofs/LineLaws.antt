@@ -9,7 +9,7 @@ use Rattle.enforcement.specs.Reason.{Reason, I-1, I-2, I-3, I-4, I-5, I-6, I-7,
 use Rattle.enforcement.specs.Loading.{Counts}
 use Rattle.enforcement.specs.Loading as loading
 use Rattle.enforcement.specs.History.{Outcome, scheduled, held, dropped, played, nothing, lit, dark, refused}
-use Rattle.retimer.specs.declared.monitor.Answer.{Answer}
+use Rattle.retimer.specs.declared.state.Answer.{Answer}
 use Rattle.retimer.specs.Calls.{outcomeOf}
 use Rattle.report.specs.Texts.{ascii, figure}
 use Rattle.report.specs.Lines.{reasonText, headerText, sheetLine, refusedLine, checkedLine, outcomeText, heldCount, answerText, tailLine}

@@ -2,10 +2,10 @@
 use crate::text::put;
 use crate::text::put_figure;
 use crate::text::put_number;
-use retimer::monitor::Answer;
 use retimer::reason::Reason;
 use retimer::sheet::Checked;
 use retimer::sheet::Counts;
+use retimer::state::Answer;
 ghost use mathlib.Core.Path.{_≡_};
 ghost use mathlib.Core.List.{_++_};
 ghost use Prim.Native.Nat.{_+_, _≤_};

@@ -15,8 +15,8 @@ use Rattle.enforcement.proofs.Loading.{bounded}
 use Rattle.enforcement.proofs.Model.{replay-append, right}
 use Rattle.enforcement.proofs.Promises.{model-demand-3}
 use Rattle.retimer.specs.declared.limits.Monitor.{Monitor}
-use Rattle.retimer.specs.declared.monitor.Answer.{Answer}
-use Rattle.retimer.specs.declared.monitor.Answer.the-variants.{Scheduled, Held, Dropped, Played, Nothing, Lit, Dark, Refused}
+use Rattle.retimer.specs.declared.state.Answer.{Answer}
+use Rattle.retimer.specs.declared.state.Answer.the-variants.{Scheduled, Held, Dropped, Played, Nothing, Lit, Dark, Refused}
 use Rattle.retimer.specs.declared.monitor.Answered.{Answered}
 use Rattle.retimer.specs.Optimum.{modelOf}
 use Rattle.retimer.specs.View.{bytesOf, automatonOf, viewOf, Valid}
@@ -114,7 +114,7 @@ module _ (s : Bytes) (b : Monitor) (sheet : bytesOf b ≡ s) (v : model.Monitor)
 
 module _ (s : Bytes) (b₀ : Monitor) (f : FreshRight s b₀) (ks : List Call) (xs : List Answer) (b : Monitor) (m : Made b₀ ks xs b) where
   loads : Loads s
-  loads = subst Loads (f .sheet) (f .valid .sound .loads)
+  loads = subst Loads (f .sheet) (f .valid .sound .state .loads)
 
   model-right : (ls : List Call) → ModelDemand3 (automaton s) ls
   unfolding ModelDemand3All
@@ -171,5 +171,5 @@ module _ (s : Bytes) (b₀ : Monitor) (f : FreshRight s b₀) (ks : List Call) (
 -- Every box stands for a history.
 pub valid-recorded : (b : Monitor) → Valid b → Recorded b
 valid-recorded b v =
-    let z = right (automatonOf b) (bounded (bytesOf b) (v .sound .loads)) (v .past) in
+    let z = right (automatonOf b) (bounded (bytesOf b) (v .sound .state .loads)) (v .past) in
     record { past = v .past; outcomes = calls (automatonOf b) (v .past) .outcomes; history = z .history; recorded = z .recorded; stands = subst⁻¹ (λ (x : model.Monitor). StandsFor (automatonOf b) x (z .history)) (v .reached) (z .stands) }

@@ -27,7 +27,7 @@ use Rattle.retimer.specs.Reasons.{reasonOf}
 use Rattle.retimer.specs.Checked.{figuresOf, checkedOf}
 use Rattle.retimer.specs.Readings.{Standing}
 use Rattle.retimer.specs.Live.{LiveTable}
-use Rattle.retimer.specs.View.{viewOf}
+use Rattle.retimer.specs.View.{view, viewOf}
 use Rattle.retimer.specs.Calls.{FreshRight}
 
 -- ---- The check's answer
@@ -52,7 +52,7 @@ refused-loads s v r e f l =
 
 -- The box of a sheet: its bytes in front of b, its live table, no action pending or scheduled, and at the initial location with a second clock that reads y.
 abbrev pub madeOf : Bytes → Bytes → List ℕ → List ℕ → List Slot → ℕ → Monitor
-madeOf s b live pending slots y = record { bytes = b; size = length s; live = live; date = 0; pending = pending; held = 0; schedule = slots; planned = 0; location = initial s; readings = 0 ∷ y ∷ []; last = 0 }
+madeOf s b live pending slots y = record { bytes = b; size = length s; live = live; state = record { date = 0; pending = pending; held = 0; schedule = slots; planned = 0; location = initial s; readings = 0 ∷ y ∷ []; last = 0 } }
 
 -- The second clock's reading, saturated where there is no second clock.
 pub second-is : (s : Bytes) (y : ℕ) → ((clocks s ≡ 1) × (y ≡ top)) ⊎ ((clocks s ≡ 1 → ⊥) × (y ≡ 0)) → y ≡ cond (oneClock (automaton s)) top 0
@@ -68,7 +68,7 @@ module _ (s b : Bytes) (live pending : List ℕ) (slots : List Slot) (y : ℕ) (
       go false n e = omega arith
 
   fresh-view : viewOf (madeOf s b live pending slots y) ≡ freshMonitor (automaton s)
-  unfolding viewOf
+  unfolding view
   fresh-view = ap (λ (n : ℕ). viewAt n) (second ∙ go (oneClock (automaton s)))
     where
       viewAt : ℕ → model.Monitor
@@ -89,15 +89,17 @@ module _ (s b : Bytes) (live pending : List ℕ) (slots : List Slot) (y : ℕ) (
           sound = record {
             bytes-sized = n;
             size-fits = size-fits s loads .1;
-            loads = rw front loads;
-            table = rw front t;
-            pending-sized = p;
-            held-fits = omega arith;
-            schedule-sized = q;
-            planned-fits = omega arith;
-            standing = rw front fresh-stands;
-            date-fits = omega arith;
-            last-fits = omega arith;
+            state = record {
+              loads = rw front loads;
+              table = rw front t;
+              pending-sized = p;
+              held-fits = omega arith;
+              schedule-sized = q;
+              planned-fits = omega arith;
+              standing = rw front fresh-stands;
+              date-fits = omega arith;
+              last-fits = omega arith;
+            };
           };
           past = [];
           reached = v;

@@ -8,13 +8,15 @@ use lib.ListN.{length}
 use borrow.Author.Tests.{eq-eqb, ne-eqb}
 use Rattle.enforcement.specs.Automaton.{Bytes, byte, word}
 use Rattle.enforcement.specs.History.{Call, offer, collect, Outcome, nothing}
+use Rattle.retimer.specs.declared.limits.State.{State}
 use Rattle.retimer.specs.declared.limits.Monitor.{Monitor}
-use Rattle.retimer.specs.declared.monitor.Answer.{Answer}
-use Rattle.retimer.specs.declared.monitor.Answer.the-variants.{Held, Nothing}
+use Rattle.retimer.specs.declared.state.Answer.{Answer}
+use Rattle.retimer.specs.declared.state.Answer.the-variants.{Held, Nothing}
+use Rattle.retimer.specs.declared.state.Moved.{Moved}
 use Rattle.retimer.specs.declared.monitor.Answered.{Answered}
 use Rattle.retimer.specs.declared.sheet.Checked.{Checked}
 use Rattle.retimer.specs.View.{viewOf, Valid}
-use Rattle.retimer.specs.Calls.{outcomeOf, CallRight, FreshRight}
+use Rattle.retimer.specs.Calls.{outcomeOf, MoveRight, CallRight, FreshRight}
 use Rattle.retimer.specs.Demand3.{Made, end, outcomesOf, CodeDemand3}
 use Rattle.retimer.specs.Replay.{dateAt, callAt, callsFrom, callsOf, lastOutcome, Followed}
 use Rattle.retimer.proofs.Demand3.{made-one-more, made-valid, code-demand-3}
@@ -24,11 +26,11 @@ use Rattle.retimer.proofs.Demand3.{made-one-more, made-valid, code-dema
 pub date-is : (s : Bytes) (i a b : ℕ) → a ≡ word s i → b ≡ word s (i + 2) → a + 65536 * b ≡ dateAt s i
 date-is s i a b e f = let z : i + 2 + 1 ≡ i + 3 = omega arith in omega (arith, rw z at f)
 
-pub call-collect : (s : Bytes) (i t : ℕ) (b : Monitor) (r : Answered) → byte s i ≡ 255 → t ≡ dateAt s (i + 1) → CallRight b (collect t) r → CallRight b (callAt s i) r
-call-collect s i t b r e f c = rw (eq-eqb (byte s i) 255 e, ← f) c
+pub call-collect : {sheet live : List ℕ} {q : State} {r : Moved} (s : Bytes) (i t : ℕ) → byte s i ≡ 255 → t ≡ dateAt s (i + 1) → MoveRight sheet live q (collect t) r → MoveRight sheet live q (callAt s i) r
+call-collect s i t e f c = rw (eq-eqb (byte s i) 255 e, ← f) c
 
-pub call-offer : (s : Bytes) (i t : ℕ) (b : Monitor) (r : Answered) → (byte s i ≡ 255 → ⊥) → t ≡ dateAt s (i + 1) → CallRight b (offer (byte s i) t) r → CallRight b (callAt s i) r
-call-offer s i t b r e f c = rw (ne-eqb (byte s i) 255 e, ← f) c
+pub call-offer : {sheet live : List ℕ} {q : State} {r : Moved} (s : Bytes) (i t : ℕ) → (byte s i ≡ 255 → ⊥) → t ≡ dateAt s (i + 1) → MoveRight sheet live q (offer (byte s i) t) r → MoveRight sheet live q (callAt s i) r
+call-offer s i t e f c = rw (ne-eqb (byte s i) 255 e, ← f) c
 
 -- ---- The calls so far
 
@@ -54,8 +56,8 @@ pub replaying-none : (b₀ : Monitor) (s : Bytes) → Replaying b₀ s 0 b₀ No
 unfolding callsFrom
 replaying-none b₀ s = record { answers = []; made = end; last-is = refl; held-count = λ n e. let z : _≡_ {A = ℕ} 0 1 = cc in absurd (omega arith); whole = refl; inside = omega arith }
 
-pub replaying-one : (b₀ : Monitor) (s : Bytes) (i : ℕ) (b : Monitor) (a : Answer) (r : Answered) → Replaying b₀ s i b a → i + 5 ≤ length s → CallRight b (callAt s i) r → Replaying b₀ s (i + 5) (r .monitor) (r .answer)
-replaying-one b₀ s i b a r p h c =
+pub replaying-one : {b₀ b : Monitor} {s : Bytes} {i : ℕ} {a : Answer} {r : Answered} → Replaying b₀ s i b a → i + 5 ≤ length s → CallRight b (callAt s i) r → Replaying b₀ s (i + 5) (r .monitor) (r .answer)
+replaying-one {b₀} {b} {s} {i} {a} {r} p h c =
     let n : (i + 5) / 5 ≡ suc (i / 5) = omega arith in
     let k : 0 + 5 * (i / 5) ≡ i = omega (arith, p .whole) in
     let e : callsFrom s ((i + 5) / 5) 0 ≡ callsFrom s (i / 5) 0 ++ (callAt s i ∷ []) = rw n (calls-one-more s (i / 5) 0 ∙ ap (λ (j : ℕ). callsFrom s (i / 5) 0 ++ (callAt s j ∷ [])) k) in
@@ -68,11 +70,11 @@ replaying-one b₀ s i b a r p h c =
       inside = h;
     }
 
-pub replaying-valid : (b₀ : Monitor) (s : Bytes) (i : ℕ) (b : Monitor) (a : Answer) → Valid b₀ → Replaying b₀ s i b a → Valid b
-replaying-valid b₀ s i b a v p = made-valid v (p .made)
+pub replaying-valid : {b₀ b : Monitor} {s : Bytes} {i : ℕ} {a : Answer} → Valid b₀ → Replaying b₀ s i b a → Valid b
+replaying-valid v p = made-valid v (p .made)
 
-pub replaying-all : (sheet : Bytes) (b₀ : Monitor) (s : Bytes) (i : ℕ) (b : Monitor) (a : Answer) (k : Checked) → FreshRight sheet b₀ → Replaying b₀ s i b a → length s < i + 5 → Followed sheet (callsOf s) (record { checked = k; monitor = b; answer = a })
-replaying-all sheet b₀ s i b a k f p h =
+pub replaying-all : {sheet : Bytes} {b₀ b : Monitor} {s : Bytes} {i : ℕ} {a : Answer} (k : Checked) → FreshRight sheet b₀ → Replaying b₀ s i b a → length s < i + 5 → Followed sheet (callsOf s) (record { checked = k; monitor = b; answer = a })
+replaying-all {sheet} {b₀} {b} {s} {i} k f p h =
     let n : i / 5 ≡ length s / 5 = omega (arith, p .whole, p .inside) in
     let m : Made b₀ (callsOf s) (p .answers) b = rw n at (p .made) in
     let d : CodeDemand3 sheet (callsOf s) (p .answers) b = code-demand-3 sheet b₀ f (callsOf s) (p .answers) b m in

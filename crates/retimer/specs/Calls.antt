@@ -6,16 +6,18 @@ use Prim.Native.Nat.{ℕ, _+_, _-_, _≤_, max}
 use lib.Dec.{ltb}
 use lib.ListN.{length, take, getD, replicate}
 use Rattle.enforcement.specs.Limits.{maxSize, maxCount, maxScheduled, maxDate}
-use Rattle.enforcement.specs.Automaton.{Bytes}
+use Rattle.enforcement.specs.Automaton.{Bytes, automaton}
 use Rattle.enforcement.specs.Loading.{Loads, check}
 use Rattle.enforcement.specs.History.{History, Call, actionsOf, Outcome, scheduled, held, dropped, played, nothing, lit, dark, refused}
 use Rattle.enforcement.specs.Monitor as model
 use Rattle.enforcement.specs.Model.{ticks, prospect}
 use Rattle.enforcement.specs.Monitor.{answer, freshMonitor, checked, placed, earliest, standing, joins, walk}
 use Rattle.enforcement.specs.Demands.{StandsFor, Demand2}
+use Rattle.retimer.specs.declared.limits.State.{State}
 use Rattle.retimer.specs.declared.limits.Monitor.{Monitor}
-use Rattle.retimer.specs.declared.monitor.Answer.{Answer}
-use Rattle.retimer.specs.declared.monitor.Answer.the-variants.{Scheduled, Held, Dropped, Played, Nothing, Lit, Dark, Refused}
+use Rattle.retimer.specs.declared.state.Answer.{Answer}
+use Rattle.retimer.specs.declared.state.Answer.the-variants.{Scheduled, Held, Dropped, Played, Nothing, Lit, Dark, Refused}
+use Rattle.retimer.specs.declared.state.Moved.{Moved}
 use Rattle.retimer.specs.declared.monitor.Answered.{Answered}
 use Rattle.retimer.specs.declared.monitor.Loaded.{Loaded}
 use Rattle.retimer.specs.declared.reason.Reason.{Reason}
@@ -24,7 +26,7 @@ use Rattle.retimer.specs.Checked.{checkedOf}
 use Rattle.retimer.specs.Readings.{waited, located, Standing}
 use Rattle.retimer.specs.Counts.{countsSize}
 use Rattle.retimer.specs.Optimum.{modelOf}
-use Rattle.retimer.specs.View.{bytesOf, automatonOf, viewOf, Sound, Valid}
+use Rattle.retimer.specs.View.{bytesOf, automatonOf, view, viewOf, StateSound, StateValid, Valid}
 
 -- Document 01's outcome of each answer.
 abbrev pub outcomeOf : Answer → Outcome
@@ -41,49 +43,67 @@ outcomeOf (Refused r) = refused (reasonOf r)
 abbrev pub answeredOf : Answered → model.Answered
 answeredOf r = record { outcome = outcomeOf (r .answer); monitor = viewOf (r .monitor) }
 
--- A refusal hands back the box that came.
-abbrev pub refusal : Monitor → Reason → Answered
-refusal b q = record { monitor = b; answer = Refused q }
+abbrev pub movedOf : Moved → model.Answered
+movedOf r = record { outcome = outcomeOf (r .answer); monitor = view (r .state) }
 
--- What the parts of a call promise: answer and box are those given; the sheet is kept; a refusal hands back the box that came; "held" has the held list's own length.
-pub record Done (b : Monitor) (w : model.Answered) (r : Answered) : Type 0 where
-  pub is : answeredOf r ≡ w
-  pub sound : Sound (r .monitor)
-  pub same-sheet : bytesOf (r .monitor) ≡ bytesOf b
-  pub refused-same : (q : Reason) → r .answer ≡ Refused q → r .monitor ≡ b
-  pub held-count : (n : ℕ) → r .answer ≡ Held n → n ≡ length (viewOf (r .monitor) .pending)
+-- A refusal hands back the state that came.
+abbrev pub refusal : State → Reason → Moved
+refusal q p = record { state = q; answer = Refused p }
+
+-- Only the date moves.
+abbrev pub movedTo : State → ℕ → State
+movedTo q t = record { date = t; pending = q .pending; held = q .held; schedule = q .schedule; planned = q .planned; location = q .location; readings = q .readings; last = q .last }
+
+-- The box with another state: sheet and table are kept.
+abbrev pub withState : Monitor → State → Monitor
+withState b q = record { bytes = b .bytes; size = b .size; live = b .live; state = q }
+
+-- What the parts of a call promise: answer and state are those given; a refusal hands back the state that came; "held" has the held list's own length.
+pub record Done (s : Bytes) (live : List ℕ) (q : State) (w : model.Answered) (r : Moved) : Type 0 where
+  pub is : movedOf r ≡ w
+  pub sound : StateSound s live (r .state)
+  pub refused-same : (p : Reason) → r .answer ≡ Refused p → r .state ≡ q
+  pub held-count : (n : ℕ) → r .answer ≡ Held n → n ≡ length (view (r .state) .pending)
 
 -- The action that joins the pending ones: the last of those to place.
-abbrev pub lastAction : Monitor → List ℕ → ℕ
-lastAction b cs = getD cs (b .held) 0
+abbrev pub lastAction : State → List ℕ → ℕ
+lastAction q cs = getD cs (q .held) 0
 
-abbrev pub newDates : Monitor → List ℕ → List ℕ
-newDates b ds = take (b .held + 1) ds
+abbrev pub newDates : State → List ℕ → List ℕ
+newDates q ds = take (q .held + 1) ds
 
 -- What an offer answers that passed the first checks.
-abbrev pub decidedOf : Monitor → ℕ → ℕ → model.Answered
-decidedOf b c t = checked (modelOf (bytesOf b)) (viewOf b) c t true false false
+abbrev pub decidedOf : Bytes → State → ℕ → ℕ → model.Answered
+decidedOf s q c t = checked (modelOf s) (view q) c t true false false
 
 -- What case 1 is given at first: the pending actions with one more, which have a correction, and where it starts.
-pub record CorrectAsked (b : Monitor) (t : ℕ) (cs : List ℕ) (start : ℕ) (here : List ℕ) : Type 0 where
-  pub sound : Sound b
+pub record CorrectAsked (s : Bytes) (live : List ℕ) (q : State) (t : ℕ) (cs : List ℕ) (start : ℕ) (here : List ℕ) : Type 0 where
+  pub sound : StateSound s live q
   pub early : t ≤ maxDate
-  pub start-is : start ≡ max t (b .last)
-  pub here-is : here ≡ waited (start - b .last) (b .readings)
-  pub joined : take (b .held + 1) cs ≡ take (b .held) (b .pending) ++ (lastAction b cs ∷ [])
-  pub correctable : (n : ℕ) × (prospect (modelOf (bytesOf b)) (take (b .held + 1) cs) (located (b .location) here) ≡ ticks n)
+  pub start-is : start ≡ max t (q .last)
+  pub here-is : here ≡ waited (start - q .last) (q .readings)
+  pub joined : take (q .held + 1) cs ≡ take (q .held) (q .pending) ++ (lastAction q cs ∷ [])
+  pub correctable : (n : ℕ) × (prospect (modelOf s) (take (q .held + 1) cs) (located (q .location) here) ≡ ticks n)
 
 -- What it is given then: the pending actions with one more, their dates, and the configuration that these reach.
-pub record PlaceAsked (b : Monitor) (t : ℕ) (cs ds : List ℕ) (l : ℕ) (r : List ℕ) : Type 0 where
-  pub sound : Sound b
+pub record PlaceAsked (s : Bytes) (live : List ℕ) (q : State) (t : ℕ) (cs ds : List ℕ) (l : ℕ) (r : List ℕ) : Type 0 where
+  pub sound : StateSound s live q
   pub early : t ≤ maxDate
-  pub joined : take (b .held + 1) cs ≡ take (b .held) (b .pending) ++ (lastAction b cs ∷ [])
-  pub stands : Standing (bytesOf b) l r
-  pub reached : located l r ≡ walk (modelOf (bytesOf b) .step) (actionsOf (joins (viewOf b) (lastAction b cs))) (newDates b ds) (earliest (viewOf b) t) (standing (viewOf b) t)
+  pub joined : take (q .held + 1) cs ≡ take (q .held) (q .pending) ++ (lastAction q cs ∷ [])
+  pub stands : Standing s l r
+  pub reached : located l r ≡ walk (modelOf s .step) (actionsOf (joins (view q) (lastAction q cs))) (newDates q ds) (earliest (view q) t) (standing (view q) t)
 
 -- Case 1 of the model.
-abbrev pub placedOf : Monitor → ℕ → List ℕ → List ℕ → ℕ → model.Answered
-placedOf b t cs ds last = placed (modelOf (bytesOf b)) (viewOf b) (lastAction b cs) t (newDates b ds) last (ltb maxDate last) (ltb (maxScheduled - length (viewOf b .schedule)) (length (joins (viewOf b) (lastAction b cs))))
+abbrev pub placedOf : Bytes → State → ℕ → List ℕ → List ℕ → ℕ → model.Answered
+placedOf s q t cs ds last = placed (modelOf s) (view q) (lastAction q cs) t (newDates q ds) last (ltb maxDate last) (ltb (maxScheduled - length (view q .schedule)) (length (joins (view q) (lastAction q cs))))
+
+-- What a call on a state promises: what `CallRight` says, of the state beside its sheet and table.
+pub record MoveRight (s : Bytes) (live : List ℕ) (q : State) (k : Call) (r : Moved) : Type 0 where
+  pub is : movedOf r ≡ answer (modelOf s) (view q) k
+  pub rule : (h : History) → StandsFor (automaton s) (view q) h → Demand2 (automaton s) h k (movedOf r)
+  pub valid : StateValid s live (r .state)
+  pub refused-same : (p : Reason) → r .answer ≡ Refused p → r .state ≡ q
+  pub held-count : (n : ℕ) → r .answer ≡ Held n → n ≡ length (view (r .state) .pending)
 
 -- What a call promises (demand 2): answer and box are the model's; for every history that the box stands for, the answer is the history's, and the box
 -- stands for the history after it; the box is one, of the same sheet; a refusal hands back the box that came; "held" has the held list's own length.
@@ -103,7 +123,7 @@ pub record FreshRight (s : Bytes) (b : Monitor) : Type 0 where
 
 -- What stands in the box's place where there is none: no sheet, and zeros throughout.
 unfoldable pub noMonitor : Monitor
-noMonitor = record { bytes = replicate maxSize 0; size = 0; live = replicate countsSize 0; date = 0; pending = replicate maxCount 0; held = 0; schedule = replicate maxScheduled (record { action = 0; date = 0 }); planned = 0; location = 0; readings = 0 ∷ 0 ∷ []; last = 0 }
+noMonitor = record { bytes = replicate maxSize 0; size = 0; live = replicate countsSize 0; state = record { date = 0; pending = replicate maxCount 0; held = 0; schedule = replicate maxScheduled (record { action = 0; date = 0 }); planned = 0; location = 0; readings = 0 ∷ 0 ∷ []; last = 0 } }
 
 -- What a load promises: the check's answer; where that accepts the sheet, a fresh box; where it does not, no box.
 pub record LoadRight (s : Bytes) (r : Loaded) : Type 0 where

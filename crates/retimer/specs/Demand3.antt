@@ -8,8 +8,8 @@ use Rattle.enforcement.specs.History.{History, fresh, Call, offer, lamp, Outcom
 use Rattle.enforcement.specs.History as reference
 use Rattle.enforcement.specs.Demands.{StandsFor, InTime}
 use Rattle.retimer.specs.declared.limits.Monitor.{Monitor}
-use Rattle.retimer.specs.declared.monitor.Answer.{Answer}
-use Rattle.retimer.specs.declared.monitor.Answer.the-variants.{Dropped, Lit, Dark}
+use Rattle.retimer.specs.declared.state.Answer.{Answer}
+use Rattle.retimer.specs.declared.state.Answer.the-variants.{Dropped, Lit, Dark}
 use Rattle.retimer.specs.declared.monitor.Answered.{Answered}
 use Rattle.retimer.specs.View.{bytesOf, automatonOf, viewOf, Valid}
 use Rattle.retimer.specs.Calls.{outcomeOf, CallRight}

@@ -9,7 +9,7 @@ use Rattle.enforcement.specs.Automaton.{Bytes, byte, automaton}
 use Rattle.enforcement.specs.History.{History, fresh, HistoryOf, Call, offer, collect, Outcome, nothing}
 use Rattle.enforcement.specs.Loading.{Loads, check}
 use Rattle.enforcement.specs.Demands.{StandsFor}
-use Rattle.retimer.specs.declared.monitor.Answer.the-variants.{Held, Nothing}
+use Rattle.retimer.specs.declared.state.Answer.the-variants.{Held, Nothing}
 use Rattle.retimer.specs.declared.replay.Replayed.{Replayed}
 use Rattle.retimer.specs.Checked.{checkedOf}
 use Rattle.retimer.specs.View.{bytesOf, viewOf, Valid}

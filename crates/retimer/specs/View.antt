@@ -11,6 +11,7 @@ use Rattle.enforcement.specs.History as history
 use Rattle.enforcement.specs.Monitor as model
 use Rattle.enforcement.specs.Demands.{calls}
 use Rattle.retimer.specs.declared.limits.Slot.{Slot}
+use Rattle.retimer.specs.declared.limits.State.{State}
 use Rattle.retimer.specs.declared.limits.Monitor.{Monitor}
 use Rattle.retimer.specs.Readings.{located, Standing}
 use Rattle.retimer.specs.Live.{LiveTable}
@@ -28,29 +29,42 @@ requestOf c = record { action = c }
 abbrev pub slotOf : Slot → history.Slot
 slotOf e = record { request = requestOf (e .action); date = e .date }
 
-abbrev pub pendingOf : Monitor → List Request
-pendingOf b = map requestOf (take (b .held) (b .pending))
+abbrev pub pendingOf : State → List Request
+pendingOf q = map requestOf (take (q .held) (q .pending))
 
-abbrev pub scheduleOf : Monitor → List history.Slot
-scheduleOf b = map slotOf (take (b .planned) (b .schedule))
+abbrev pub scheduleOf : State → List history.Slot
+scheduleOf q = map slotOf (take (q .planned) (q .schedule))
 
 -- The box: date, held list, schedule, and the configuration and date that the last event ever scheduled reached.
-unfoldable pub viewOf : Monitor → model.Monitor
-viewOf b = record { date = b .date; pending = pendingOf b; schedule = scheduleOf b; configuration = located (b .location) (b .readings); last = b .last }
+unfoldable pub view : State → model.Monitor
+view q = record { date = q .date; pending = pendingOf q; schedule = scheduleOf q; configuration = located (q .location) (q .readings); last = q .last }
+
+abbrev pub viewOf : Monitor → model.Monitor
+viewOf b = view (b .state)
+
+-- A sheet that loads, its table, and a state whose parts fit.
+pub record StateSound (s : Bytes) (live : List ℕ) (q : State) : Type 0 where
+  pub loads : Loads s
+  pub table : LiveTable s live
+  pub pending-sized : length (q .pending) ≡ maxCount
+  pub held-fits : q .held ≤ maxCount
+  pub schedule-sized : length (q .schedule) ≡ maxScheduled
+  pub planned-fits : q .planned ≤ maxScheduled
+  pub standing : Standing s (q .location) (q .readings)
+  pub date-fits : q .date ≤ maxDate
+  pub last-fits : q .last ≤ maxDate
 
 -- The parts of a box fit.
 pub record Sound (b : Monitor) : Type 0 where
   pub bytes-sized : length (b .bytes) ≡ maxSize
   pub size-fits : b .size ≤ maxSize
-  pub loads : Loads (bytesOf b)
-  pub table : LiveTable (bytesOf b) (b .live)
-  pub pending-sized : length (b .pending) ≡ maxCount
-  pub held-fits : b .held ≤ maxCount
-  pub schedule-sized : length (b .schedule) ≡ maxScheduled
-  pub planned-fits : b .planned ≤ maxScheduled
-  pub standing : Standing (bytesOf b) (b .location) (b .readings)
-  pub date-fits : b .date ≤ maxDate
-  pub last-fits : b .last ≤ maxDate
+  pub state : StateSound (bytesOf b) (b .live) (b .state)
+
+-- A state of a sheet: its parts fit, and it is what some list of calls gives from a fresh one.
+pub record StateValid (s : Bytes) (live : List ℕ) (q : State) : Type 0 where
+  pub sound : StateSound s live q
+  pub past : List Call
+  pub reached : view q ≡ calls (automaton s) past .monitor
 
 -- A box: its parts fit, and it is what some list of calls gives from a fresh one. Every load and call promises this of the box that it gives, and a call asks for nothing else.
 pub record Valid (b : Monitor) : Type 0 where

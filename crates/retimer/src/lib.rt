@@ -51,6 +51,9 @@ pub mod lamp;
 // Lists that are kept at the front of arrays.
 pub mod lists;
 
+// The calls on a box's state.
+pub mod state;
+
 // The box's calls.
 pub mod monitor;
 

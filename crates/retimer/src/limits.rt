@@ -6,12 +6,8 @@ pub struct Slot {
     pub date: u32,
 }
 
-// An enforcement monitor (the box): its automaton's bytes, the table of live configurations, its date, the pending actions, the schedule, and
-// the location, readings and date reached by the last event ever scheduled.
-pub struct Monitor {
-    pub bytes: [u8; Monitor::SIZE],
-    pub size: usize,
-    pub live: [u8; Monitor::COUNTS],
+// What calls change of a box: its date, the pending actions, the schedule, and the location, readings and date reached by the last event ever scheduled.
+pub struct State {
     pub date: u32,
     pub pending: [u8; Monitor::COUNT],
     pub held: usize,
@@ -20,6 +16,14 @@ pub struct Monitor {
     pub location: u8,
     pub readings: [u8; 2],
     pub last: u32,
+}
+
+// An enforcement monitor (the box): its automaton's bytes, the table of live configurations, and its state.
+pub struct Monitor {
+    pub bytes: [u8; Monitor::SIZE],
+    pub size: usize,
+    pub live: [u8; Monitor::COUNTS],
+    pub state: State,
 }
 
 impl Monitor {

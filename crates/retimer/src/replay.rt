@@ -1,14 +1,15 @@
 // A list of calls as the desk program reads them, on a fresh box.
 use crate::bytes;
 use crate::limits::Monitor;
-use crate::monitor::Answer;
-use crate::monitor::Answered;
+use crate::limits::State;
 use crate::sheet::Checked;
+use crate::state::Answer;
+use crate::state::Moved;
 ghost use mathlib.Core.Path.{_≡_};
 ghost use Prim.Native.Nat.{_+_, _≤_};
 ghost use lib.ListN.{length};
-ghost use Rattle.retimer.specs.View.{Valid};
-ghost use Rattle.retimer.specs.Calls.{CallRight};
+ghost use Rattle.retimer.specs.View.{StateValid};
+ghost use Rattle.retimer.specs.Calls.{MoveRight};
 ghost use Rattle.retimer.specs.Replay.{dateAt, callAt, ReplayRight};
 
 // The check's answer, the last box, and the last answer; "none" where there was no call. After a refused sheet there is no box.
@@ -28,17 +29,17 @@ fn date_at(s: &[u8], i: usize) -> u32
     low + 65536 * high
 }
 
-// The call in five bytes from i on, on a box.
-pub fn call_at(b: Monitor, s: &[u8], i: usize) -> Answered
-    requires { ⌜ (Valid b) × (i + 5 ≤ length (now s)) ⌝ }
-    ensures { λ r. ⌜ CallRight b (callAt (now (s .entry)) i) r ⌝ }
+// The call in five bytes from i on, on the state of a box with the sheet and its table.
+pub fn call_at<'a>(sheet: &'a [u8], live: &'a [u8], state: State, calls: &[u8], i: usize) -> Moved
+    requires { ⌜ (StateValid (now sheet) (now live) state) × (i + 5 ≤ length (now calls)) ⌝ }
+    ensures { λ r. ⌜ MoveRight (now (sheet .entry)) (now (live .entry)) state (callAt (now (calls .entry)) i) r ⌝ }
 {
-    let t = date_at(s, i + 1);
-    let c = s[i];
+    let t = date_at(calls, i + 1);
+    let c = calls[i];
     if c == 255 {
-        return b.collect(t);
+        return state.collect(sheet, live, t);
     }
-    b.offer(c, t)
+    state.offer(sheet, live, c, t)
 }
 
 // The calls of a list of bytes, from a fresh box of a sheet.
@@ -47,7 +48,7 @@ pub fn replay(s: &[u8], calls: &[u8]) -> Replayed
 {
     let loaded = Monitor::load(s);
     let checked = loaded.checked;
-    let mut b = loaded.monitor;
+    let b = loaded.monitor;
     let mut answer = Answer::Nothing;
     match checked {
         Checked::Accepted(_) => {}
@@ -59,16 +60,20 @@ pub fn replay(s: &[u8], calls: &[u8]) -> Replayed
             };
         }
     }
+    let size = b.size;
+    let sheet: &[u8] = &b.bytes;
+    let live: &[u8] = &b.live;
+    let mut q = b.state;
     let mut i: usize = 0;
     while i + 5 <= calls.len() {
-        let r = call_at(b, calls, i);
-        b = r.monitor;
+        let r = call_at(&sheet[..size], live, q, calls, i);
+        q = r.state;
         answer = r.answer;
         i += 5;
     }
     Replayed {
         checked,
-        monitor: b,
+        monitor: b.with_state(q),
         answer,
     }
 }

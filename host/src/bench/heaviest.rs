@@ -157,6 +157,32 @@ fn among_dead(to: [u8; 6]) -> Vec<[u8; RULE]> {
     ]
 }
 
+/// The sheet of the worst waits found. At each tick before the way to the goal
+/// goes on, the held action could be played at once, without a reset, into
+/// dead locations: what that would cost is looked for along a chain, through
+/// all of them at each later action.
+pub fn dead_beside() -> Vec<u8> {
+    let mut outgoing: Vec<_> = (0..LIVE).map(spread_late).collect();
+    outgoing.push(vec![
+        rule(HELD, 0, NONE, [0, 29], ANY),
+        rule(HELD, LIVE, BOTH, [30, UNBOUNDED], ANY),
+        rule(EXIT, GOAL, NONE, ANY, ANY),
+    ]);
+    outgoing.push(vec![rule(HELD, LIVE, BOTH, ANY, ANY)]);
+    draft(outgoing).bytes()
+}
+
+/// Each wait leads to another configuration, by a reset; after the longest two
+/// there is none, so that all dead locations are reached without one.
+fn spread_late(location: u8) -> Vec<[u8; RULE]> {
+    let next = (location + 1) % LIVE;
+    vec![
+        rule(HELD, next, FIRST, ANY, [0, 28]),
+        rule(HELD, next, NONE, ANY, [29, 29]),
+        rule(HELD, (location + 4) % LIVE, NONE, ANY, [30, UNBOUNDED]),
+    ]
+}
+
 /// Fills the pending list from the last scheduled date on; gives the date.
 fn fill(script: &mut Script) -> u32 {
     let date = script.monitor().reached().date;
@@ -244,4 +270,9 @@ pub fn planned_late(_calls: usize) -> Vec<Input> {
 /// The worst plan found.
 pub fn planned_worst(_calls: usize) -> Vec<Input> {
     planned(&dead_locations())
+}
+
+/// The plan with the worst waits found.
+pub fn planned_waits(_calls: usize) -> Vec<Input> {
+    planned(&dead_beside())
 }

@@ -19,7 +19,7 @@ pub use report::report;
 use crate::desk::{CALL, COLLECTION};
 use course::single;
 use heaviest::{batches_late, batches_many, dropped, held_too_many, no_room_late, no_room_many};
-use heaviest::{planned_late, planned_many, planned_worst};
+use heaviest::{planned_late, planned_many, planned_waits, planned_worst};
 use held::{one_clock as long_one, two_clocks as long_two};
 use std::path::Path;
 use std::{fs, io};
@@ -135,6 +135,7 @@ pub const WORST: &[Kind] = &[
     kind("many states, scheduled", [1, ALL, 1, 30], planned_many),
     kind("late correction, scheduled", [1, ALL, 1, 6], planned_late),
     kind("worst plan found", [1, ALL, 1, 30], planned_worst),
+    kind("worst waits found", [1, ALL, 1, 6], planned_waits),
 ];
 
 /// The kinds whose times are per load.

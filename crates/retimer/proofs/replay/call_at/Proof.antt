@@ -20,16 +20,18 @@ collect-requires c κs = search needs
 
 returns : tie.Need-returns
 returns c =
-    let a = c .before .before .before .before .before in
-    call-collect (a .args .s .now) (a .args .i) (c .before .before .before .date-at .result) (a .args .b) (c .collect .result) (omega (arith, c .before .if1 .taken)) (c .before .before .before .date-at .ensures) (c .collect .ensures)
+    let a = c .before .before .before .before .before .before .before .args in
+    let d = c .before .before .before .date-at in
+    call-collect (a .calls .now) (a .i) (d .result) (omega (arith, c .before .if1 .taken)) (d .ensures) (c .collect .ensures)
 
 offer-requires : tie.Need-offer-requires
 offer-requires c κs = search needs
 
 returns-2 : tie.Need-returns-2
 returns-2 c =
-    let a = c .before .before .before .before .before in
-    call-offer (a .args .s .now) (a .args .i) (c .before .before .before .date-at .result) (a .args .b) (c .offer .result) (c .before .if1 .left) (c .before .before .before .date-at .ensures) (c .offer .ensures)
+    let a = c .before .before .before .before .before .before .before .args in
+    let d = c .before .before .before .date-at in
+    call-offer (a .calls .now) (a .i) (d .result) (c .before .if1 .left) (d .ensures) (c .offer .ensures)
 
 pub call-at-spec : {M : Type 1} → statement M
 call-at-spec =

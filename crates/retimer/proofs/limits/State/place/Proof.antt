@@ -1,10 +1,10 @@
--- `Monitor::place` meets its contract: too late, too many, and scheduled.
+-- `State::place` meets its contract: too late, too many, and scheduled.
 -- Assumes nothing.
 use native.Mathlib.Omega.{arith}
 use borrow.Author.Needs.{needs}
 use Rattle.retimer.proofs.Views.{late-done, crowded-done, placed-done}
-use Rattle.retimer.proofs.limits.Monitor.place.Statement.{statement}
-use Rattle.retimer.proofs.limits.Monitor.place.Tie as tie
+use Rattle.retimer.proofs.limits.State.place.Statement.{statement}
+use Rattle.retimer.proofs.limits.State.place.Tie as tie
 
 add-k : tie.Need-add-k
 add-k c = search needs
@@ -14,7 +14,7 @@ refuse-requires c κs = search needs
 
 returns : tie.Need-returns
 returns c =
-    let a = c .before .before .before in
+    let a = c .before .before .before .before .before in
     rw (c .refuse .ensures) (late-done (a .args .self) (a .args .t) (a .args .cs) (a .args .ds) (a .args .last) (a .pre .sound) (omega (arith, c .before .if1 .taken)))
 
 sub-if2 : tie.Need-sub-if2
@@ -25,7 +25,7 @@ refuse-requires-2 c κs = search needs
 
 returns-2 : tie.Need-returns-2
 returns-2 c =
-    let a = c .before .before .before .before in
+    let a = c .before .before .before .before .before .before in
     rw (c .refuse2 .ensures) (crowded-done (a .args .self) (a .args .t) (a .args .cs) (a .args .ds) (a .args .last) (a .pre .sound) (omega (arith, c .before .before .if1 .left)) (omega (arith, c .before .if2 .taken)))
 
 with-slots-requires : tie.Need-with-slots-requires
@@ -34,14 +34,14 @@ with-slots-requires c κs = search needs
 add-self : tie.Need-add-self
 add-self c = search needs
 
-cast-t16 : tie.Need-cast-t16
-cast-t16 c = search needs
+cast-t18 : tie.Need-cast-t18
+cast-t18 c = search needs
 
 returns-3 : tie.Need-returns-3
 returns-3 c =
-    let a = c .before .before .before .before .before in
-    placed-done (a .args .self) (a .args .t) (a .args .cs) (a .args .ds) (a .args .location) (a .args .readings) (a .args .last) (c .with-slots .result) (a .pre) (omega (arith, a .good))
-    (omega (arith, c .before .before .before .if1 .left)) (omega (arith, c .before .before .if2 .left)) (c .with-slots .ensures .0) (c .with-slots .ensures .1)
+    let a = c .before .before .before .before .before .before .before in
+    placed-done (a .args .self) (a .args .t) (a .args .cs) (a .args .ds) (a .args .location) (a .args .readings) (a .args .last) (c .with-slots .result) (a .pre) (c .with-slots .ensures .0)
+    (omega (arith, a .good)) (omega (arith, c .before .before .before .if1 .left)) (omega (arith, c .before .before .if2 .left)) (c .with-slots .ensures .1)
 
 pub place-spec : {M : Type 1} → statement M
 place-spec =
@@ -55,5 +55,5 @@ place-spec =
     returns-2
     with-slots-requires
     add-self
-    cast-t16
+    cast-t18
     returns-3)

@@ -1,12 +1,12 @@
--- `Monitor::correct` meets its contract: no correction takes so long that the last date would be passed.
+-- `State::correct` meets its contract: no correction takes so long that the last date would be passed.
 -- Assumes nothing.
 use native.Mathlib.Omega.{arith}
 use Rattle.retimer.proofs.Decisions.{worked, crowded-is}
 use Rattle.retimer.proofs.Views.{refused-done}
 use Rattle.retimer.specs.declared.reason.Reason.the-variants.{S3}
 use borrow.Author.Needs.{needs}
-use Rattle.retimer.proofs.limits.Monitor.correct.Statement.{statement}
-use Rattle.retimer.proofs.limits.Monitor.correct.Tie as tie
+use Rattle.retimer.proofs.limits.State.correct.Statement.{statement}
+use Rattle.retimer.proofs.limits.State.correct.Tie as tie
 
 sub-if1 : tie.Need-sub-if1
 sub-if1 c = search needs
@@ -22,9 +22,9 @@ refuse-requires c κs = search needs
 
 returns : tie.Need-returns
 returns c =
-    let a = c .before .before .before .before .before in
+    let a = c .before .before .before .before .before .before .before in
     let w = worked (a .pre) (omega (arith, a .good)) in
-    rw (c .refuse .ensures) (refused-done (a .args .self) S3 _ (a .pre .sound) (crowded-is _ _ _ _ _ _ w (a .pre .correctable .0) (a .pre .correctable .1) (omega (arith, c .before .if2 .taken)) (omega (arith, c .before .before .if1 .taken))))
+    rw (c .refuse .ensures) (refused-done (a .args .self) S3 _ (a .pre .sound) (crowded-is w (a .pre .correctable .1) (omega (arith, c .before .if2 .taken)) (omega (arith, c .before .before .if1 .taken))))
 
 date-and-place-requires : tie.Need-date-and-place-requires
 date-and-place-requires c κs = search needs

@@ -1,22 +1,22 @@
--- `Monitor::play` meets its contract: nothing scheduled, too early, and played.
+-- `State::play` meets its contract: nothing scheduled, too early, and played.
 -- Assumes nothing.
 use native.Mathlib.Omega.{arith}
 use borrow.Author.Needs.{needs}
 use Rattle.retimer.proofs.Views.{empty-done, early-done, played-done}
-use Rattle.retimer.proofs.limits.Monitor.play.Statement.{statement}
-use Rattle.retimer.proofs.limits.Monitor.play.Tie as tie
+use Rattle.retimer.proofs.limits.State.play.Statement.{statement}
+use Rattle.retimer.proofs.limits.State.play.Tie as tie
 
 array-copy-out-first : tie.Need-array-copy-out-first
 array-copy-out-first c = search needs
 
 returns : tie.Need-returns
 returns c =
-    let a = c .before .before .before in
+    let a = c .before .before .before .before .before in
     empty-done (a .args .self) (a .args .t) (a .pre .0) (a .pre .1) (omega (arith, c .if1 .taken))
 
 returns-2 : tie.Need-returns-2
 returns-2 c =
-    let a = c .before .before .before .before .before in
+    let a = c .before .before .before .before .before .before .before in
     early-done (a .args .self) (a .args .t) (a .pre .0) (a .pre .1) (omega (arith, c .before .before .if1 .left)) (omega (arith, c .if2 .taken))
 
 without-first-requires : tie.Need-without-first-requires
@@ -27,7 +27,7 @@ sub-self c = search needs
 
 returns-3 : tie.Need-returns-3
 returns-3 c =
-    let a = c .before .before .before .before .before .before in
+    let a = c .before .before .before .before .before .before .before .before in
     played-done (a .args .self) (a .args .t) (c .without-first .result) (a .pre .0) (a .pre .1) (omega (arith, c .before .before .before .if1 .left)) (omega (arith, c .before .if2 .left)) (c .without-first .ensures .0) (c .without-first .ensures .1)
 
 pub play-spec : {M : Type 1} → statement M

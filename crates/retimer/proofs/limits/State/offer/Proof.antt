@@ -1,0 +1,59 @@
+-- `State::offer` meets its contract: each first check is the model's, and a call whose parts are right is right.
+-- Assumes nothing.
+use native.Mathlib.Omega.{arith}
+use borrow.Author.Needs.{needs}
+use Rattle.enforcement.proofs.Loading.{size-fits}
+use Rattle.retimer.proofs.CallLaws.{offer-unknown, offer-late, offer-past, offer-decided}
+use Rattle.retimer.proofs.limits.State.offer.Statement.{statement}
+use Rattle.retimer.proofs.limits.State.offer.Tie as tie
+
+shared-slice-read-if1 : tie.Need-shared-slice-read-if1
+shared-slice-read-if1 c =
+    let a = c .before .before .before in
+    omega (arith, size-fits (a .args .s .now) (a .pre .sound .loads))
+
+refuse-requires : tie.Need-refuse-requires
+refuse-requires c κs = search needs
+
+returns : tie.Need-returns
+returns c =
+    let a = c .before .before .before .before .before in
+    rw (c .refuse .ensures) (offer-unknown (a .pre) (a .args .c) (a .args .t) (omega (arith, c .before .if1 .taken)))
+
+refuse-requires-2 : tie.Need-refuse-requires-2
+refuse-requires-2 c κs = search needs
+
+returns-2 : tie.Need-returns-2
+returns-2 c =
+    let a = c .before .before .before .before .before .before in
+    rw (c .refuse2 .ensures) (offer-late (a .pre) (a .args .c) (a .args .t) (omega (arith, c .before .before .if1 .left)) (omega (arith, c .before .if2 .taken)))
+
+refuse-requires-3 : tie.Need-refuse-requires-3
+refuse-requires-3 c κs = search needs
+
+returns-3 : tie.Need-returns-3
+returns-3 c =
+    let a = c .before .before .before .before .before .before .before .before in
+    rw (c .refuse3 .ensures) (offer-past (a .pre) (a .args .c) (a .args .t) (omega (arith, c .before .before .before .before .if1 .left)) (omega (arith, c .before .before .before .if2 .left)) (omega (arith, c .before .if3 .taken)))
+
+decide-requires : tie.Need-decide-requires
+decide-requires c κs = search needs
+
+returns-4 : tie.Need-returns-4
+returns-4 c =
+    let a = c .before .before .before .before .before .before .before .before in
+    offer-decided (a .pre) (a .args .c) (a .args .t) (omega (arith, c .before .before .before .before .if1 .left)) (omega (arith, c .before .before .before .if2 .left)) (omega (arith, c .before .if3 .left)) (c .decide .ensures)
+
+pub offer-spec : {M : Type 1} → statement M
+offer-spec =
+    tie.close
+    (tie.spec
+    shared-slice-read-if1
+    refuse-requires
+    returns
+    refuse-requires-2
+    returns-2
+    refuse-requires-3
+    returns-3
+    decide-requires
+    returns-4)
