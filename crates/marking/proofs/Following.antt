@@ -221,4 +221,5 @@ module _ {start : Monitor} {s : Bytes} {n : ℕ} {before out : List ℕ} {q : St
         monitor-is = monitor-all;
         valid = valid-box f (g .valid);
         same-sheet = refl;
+        kept = refl;
       }

@@ -19,6 +19,7 @@ use Rattle.report.specs.Lines.{sheetLine, refusedLine, outcomeText, callLine, t
 use Rattle.retimer.specs.declared.limits.Monitor.{Monitor}
 use Rattle.retimer.specs.Optimum.{modelOf}
 use Rattle.retimer.specs.View.{bytesOf, viewOf, Valid}
+use Rattle.retimer.specs.Calls.{withState}
 use Rattle.retimer.specs.Replay.{callsOf}
 use Rattle.marking.specs.declared.block.Marked.{Marked}
 
@@ -43,6 +44,7 @@ pub record MarkRight (b : Monitor) (s : Bytes) (n : ℕ) (before after : List �
   pub monitor-is : viewOf (r .monitor) ≡ replay (modelOf (bytesOf b)) (viewOf b) (callsOf s) .monitor
   pub valid : Valid (r .monitor)
   pub same-sheet : bytesOf (r .monitor) ≡ bytesOf b
+  pub kept : r .monitor ≡ withState b (r .monitor .state)
 
 -- Blocks join: the text of bytes that begin with whole calls is the text of those calls, and behind it that of the rest, on the box and with the number of
 -- calls that the first part gives.

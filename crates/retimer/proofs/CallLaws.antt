@@ -52,6 +52,7 @@ module _ {s : Bytes} {live : List ℕ} {q : State} (v : StateValid s live q) (k 
     rule = demand (d .is);
     valid = record { sound = d .sound; past = v .past ++ (k ∷ []); reached = reached-more d };
     refused-same = d .refused-same;
+    idle-same = d .idle-same;
     held-count = d .held-count;
   }
 
@@ -73,6 +74,8 @@ move-call {b} f m = record {
   rule = m .rule;
   valid = valid-box f (m .valid);
   same-sheet = refl;
+  kept = refl;
+  idle-same = m .idle-same;
   refused-same = λ q e. ap (withState b) (m .refused-same q e);
   held-count = m .held-count;
 }
@@ -130,5 +133,5 @@ module _ {s : Bytes} {live : List ℕ} {q : State} (v : StateValid s live q) (t 
 
 pub lamp-right : {s : Bytes} {live : List ℕ} {q : State} (x : Bool) → StateValid s live q → lampLit (modelOf s) (view q) ≡ x → MoveRight s live q lamp (record { state = q; answer = cond x Lit Dark })
 unfolding answer
-lamp-right {s} {live} {q} true v e = done-right v lamp _ (plain-done q _ (record { state = q; answer = Lit }) tt (rw e) (v .sound))
-lamp-right {s} {live} {q} false v e = done-right v lamp _ (plain-done q _ (record { state = q; answer = Dark }) tt (rw e) (v .sound))
+lamp-right {s} {live} {q} true v e = done-right v lamp _ (plain-done q _ (record { state = q; answer = Lit }) tt (λ z. refl) (rw e) (v .sound))
+lamp-right {s} {live} {q} false v e = done-right v lamp _ (plain-done q _ (record { state = q; answer = Dark }) tt (λ z. refl) (rw e) (v .sound))

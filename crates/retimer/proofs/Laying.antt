@@ -8,7 +8,7 @@ use Prim.Native.Nat.{ℕ, zero, suc, _+_, _≤_, _<_, min}
 use native.Mathlib.Omega.{arith}
 use lib.ListN.{length}
 use Rattle.enforcement.specs.Limits.{maxCount}
-use Rattle.enforcement.specs.Automaton.{Bytes, Transition, automaton, transitions, enabled}
+use Rattle.enforcement.specs.Automaton.{Bytes, Transition, automaton, transitions}
 use Rattle.enforcement.specs.TimedWord.{Configuration, fire, step}
 use Rattle.enforcement.specs.Loading.{Loads, Bounded}
 use Rattle.enforcement.specs.Model.{top, advance, prospect}

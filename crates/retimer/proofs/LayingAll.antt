@@ -1,6 +1,6 @@
 -- The costs of all locations, one after the other.
 -- Assumes nothing.
-use mathlib.Core.Path.{_≡_, refl, sym, _∙_, subst, subst⁻¹}
+use mathlib.Core.Path.{_≡_, refl, sym, _∙_, subst⁻¹}
 use mathlib.Core.Bool.{Bool, true, false, cond}
 use mathlib.Core.List.{List, []}
 use mathlib.Core.Logic.{_⊎_, inl, inr}
@@ -12,9 +12,8 @@ use lib.Seq.{drop-length}
 use borrow.Author.Tests.{eqb-true, eqb-false}
 use Rattle.enforcement.specs.Automaton.{Bytes, accepting, locations}
 use Rattle.enforcement.specs.Model.{width}
-use Rattle.enforcement.proofs.Loading.{header}
 use Rattle.retimer.specs.Costs.{never, configuration, placeOf, Ground}
-use Rattle.retimer.specs.Layers.{half, Small, Laid, Layer, Laying, Blank, Cleared, LocationLaid, OneLaid, Noted, Full, Lasts, Noting, Ended, LayersOf, Filled}
+use Rattle.retimer.specs.Layers.{half, Small, Laid, Layer, Laying, Ready, Cleared, LocationLaid, OneLaid, Noted, Full, Lasts, Noting, Ended, LayersOf, Filled}
 use Rattle.retimer.proofs.Arrays.{zero-at}
 use Rattle.retimer.proofs.CostLaws.{le-or-lt, end-cost}
 
@@ -25,7 +24,7 @@ pub record Part (s cs : List ℕ) (h l : ℕ) (table : List ℕ) : Type 0 where
   pub laid : (m : ℕ) → m < half → h + m < l → h + m < locations s → Laid s cs (h + m) m table
 
 module _ {s cs : List ℕ} {h l : ℕ} {table : List ℕ} where
-  pub part-begun : {m : ℕ} → Blank m table → l ≤ h → Part s cs h l table
+  pub part-begun : {m : ℕ} → Ready m table → l ≤ h → Part s cs h l table
   part-begun b k = record { size = b .size; small = b .small; laid = λ m a f g. absurd (omega arith) }
 
   -- The location l is in this table.
@@ -62,7 +61,7 @@ pub record InAll (s cs : List ℕ) (k : ℕ) (first₀ second₀ low high first 
   pub second-lasts : Lasts second₀ second
 
 module _ {s cs : List ℕ} {k : ℕ} {first₀ second₀ low high : List ℕ} where
-  pub all-begun : Blank 0 low → Blank 0 high → Ground s cs first₀ second₀ → InAll s cs k first₀ second₀ low high first₀ second₀ 0
+  pub all-begun : Ready 0 low → Ready 0 high → Ground s cs first₀ second₀ → InAll s cs k first₀ second₀ low high first₀ second₀ 0
   all-begun a b g = record {
     not-past = omega arith;
     low-part = part-begun a (omega arith);
@@ -133,7 +132,7 @@ pub record InEnds (s low high : List ℕ) (l : ℕ) : Type 0 where
   pub high-part : Part s [] half l high
 
 module _ {s low high : List ℕ} where
-  pub ends-begun : Blank 0 low → Blank 0 high → InEnds s low high 0
+  pub ends-begun : Ready 0 low → Ready 0 high → InEnds s low high 0
   ends-begun a b = record { not-past = omega arith; low-part = part-begun a (omega arith); high-part = part-begun b (omega arith) }
 
   module _ {l : ℕ} (w : InEnds s low high l) where
@@ -166,15 +165,15 @@ full-next w some j l a b c = w .full j l (omega arith) b c
 pub filled : {s cs : List ℕ} {k : ℕ} {low high first second : List ℕ} → LayersOf s cs k low high first second → k ≤ 1 → Filled s cs first second
 filled w h = record { ground = w .ground; full = λ j l a b c. w .full j l (omega arith) b c }
 
-pub blank-low : {s cs : List ℕ} {k : ℕ} {low high first second : List ℕ} → LayersOf s cs k low high first second → Blank 0 low
-blank-low w = record { in-half = omega arith; size = w .low-layer .size; small = w .low-small }
+pub ready-low : {s cs : List ℕ} {k : ℕ} {low high first second : List ℕ} → LayersOf s cs k low high first second → Ready 0 low
+ready-low w = record { in-half = omega arith; size = w .low-layer .size; small = w .low-small }
 
-pub blank-high : {s cs : List ℕ} {k : ℕ} {low high first second : List ℕ} → LayersOf s cs k low high first second → Blank 0 high
-blank-high w = record { in-half = omega arith; size = w .high-layer .size; small = w .high-small }
+pub ready-high : {s cs : List ℕ} {k : ℕ} {low high first second : List ℕ} → LayersOf s cs k low high first second → Ready 0 high
+ready-high w = record { in-half = omega arith; size = w .high-layer .size; small = w .high-small }
 
 -- A table of zeros.
-pub blank-none : (n : ℕ) → n ≡ half * (width * width) → Blank 0 (replicate n 0)
-blank-none n e = record { in-half = omega arith; size = length-replicate n 0 ∙ e; small = λ i. omega (arith, zero-at n i) }
+pub ready-none : (n : ℕ) → n ≡ half * (width * width) → Ready 0 (replicate n 0)
+ready-none n e = record { in-half = omega arith; size = length-replicate n 0 ∙ e; small = λ i. omega (arith, zero-at n i) }
 
 -- All is played after the last action.
 pub layers-ended : {s cs : List ℕ} {low high first second : List ℕ} → Ended s low high → Ground s cs first second → LayersOf s cs (length cs) low high first second

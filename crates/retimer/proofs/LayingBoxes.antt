@@ -3,18 +3,17 @@
 use mathlib.Core.Path.{_≡_, refl, ap, sym, _∙_, subst}
 use mathlib.Core.Bool.{Bool, true, false, cond}
 use mathlib.Core.List.{List}
-use mathlib.Core.Logic.{_⊎_, inl, inr, ⊎-elim, _↔_}
-use Prim.Native.Nat.{ℕ, suc, _+_, _-_, _*_, _/_, _%_, _≤_, _<_, min}
+use mathlib.Core.Logic.{_⊎_, inl, inr, ⊎-elim}
+use Prim.Native.Nat.{ℕ, _+_, _-_, _*_, _/_, _%_, _≤_, _<_, min}
 use native.Mathlib.Omega.{arith}
 use lib.Dec.{eqb}
 use lib.ListN.{length, getD}
 use borrow.Author.Tests.{eqb-true, eqb-false}
-use Rattle.enforcement.specs.Automaton.{Bytes, Transition, bit, enabled, within}
+use Rattle.enforcement.specs.Automaton.{Transition, bit, within}
 use Rattle.enforcement.specs.Loading.{Bounds}
 use Rattle.enforcement.specs.Model.{top, width}
-use Rattle.enforcement.proofs.Tests.{test-true}
 use Rattle.retimer.specs.Sets.{past}
-use Rattle.retimer.specs.Layers.{half, cellOf, cell, RowLowered, BoxLowered}
+use Rattle.retimer.specs.Layers.{cellOf, cell, RowLowered, BoxLowered}
 use Rattle.retimer.proofs.sets.Bounding.{enabled-tests, past-ordered, within-past, within-inside}
 use Rattle.retimer.proofs.CostLaws.{le-or-lt}
 

@@ -1,23 +1,22 @@
 -- All transitions of a location, and its costs.
 -- Assumes nothing.
-use mathlib.Core.Path.{_≡_, refl, ap, sym, _∙_, subst, subst⁻¹}
+use mathlib.Core.Path.{_≡_, refl, ap, _∙_, subst⁻¹}
 use mathlib.Core.Bool.{Bool, true, false, cond}
-use mathlib.Core.List.{List, _∷_}
+use mathlib.Core.List.{List}
 use mathlib.Core.Logic.{_⊎_, inl, inr, ⊎-elim, _↔_}
-use Prim.Native.Nat.{ℕ, suc, _+_, _-_, _*_, _≤_, _<_, min}
+use Prim.Native.Nat.{ℕ, _+_, _-_, _*_, _≤_, _<_}
 use native.Mathlib.Omega.{arith}
 use lib.Dec.{eqb}
 use lib.ListN.{length, getD, drop, set, length-drop, length-set}
 use lib.Seq.{getD-set-same, getD-set-other}
 use borrow.Author.Tests.{eqb-true, eqb-false}
-use Rattle.enforcement.specs.Limits.{maxCount}
-use Rattle.enforcement.specs.Automaton.{Bytes, Transition, bit, enabled, locations, transitionAt, word}
-use Rattle.enforcement.specs.Loading.{Loads, Fits}
+use Rattle.enforcement.specs.Automaton.{Transition, bit, enabled, locations, transitionAt, word}
+use Rattle.enforcement.specs.Loading.{Fits}
 use Rattle.enforcement.specs.TimedWord.{fire}
 use Rattle.enforcement.specs.Model.{top, width}
 use Rattle.enforcement.proofs.Tests.{true-false}
 use Rattle.retimer.specs.Costs.{never, costAt, configuration, justReset, placeOf, Ground, Costed, AfterAsked}
-use Rattle.retimer.specs.Layers.{half, cellOf, cell, tick, Small, Layer, Laid, AllTicked, Now, NowOne, BoxLowered, Laying, Blank, Cleared, Took, LocationLaid, Lasts, Noting}
+use Rattle.retimer.specs.Layers.{half, cellOf, cell, Small, Layer, Laid, AllTicked, Now, NowOne, BoxLowered, Laying, Ready, Cleared, Took, LocationLaid, Lasts, Noting}
 use Rattle.retimer.proofs.Left.{Left, left-begun, left-inside, left-fits, left-next, left-none}
 use Rattle.retimer.proofs.Prospects.{left-some}
 use Rattle.retimer.proofs.CostLaws.{le-or-lt}
@@ -69,7 +68,7 @@ pub record InClear (m c i : ℕ) (table table′ : List ℕ) : Type 0 where
   pub done : (j : ℕ) → cellOf m 0 0 ≤ j → j < i → getD table′ j 0 ≡ c
   pub rest : (j : ℕ) → (j < cellOf m 0 0) ⊎ (i ≤ j) → getD table′ j 0 ≡ getD table j 0
 
-module _ {m c : ℕ} {table : List ℕ} (b : Blank m table) (c-small : c ≤ never) where
+module _ {m c : ℕ} {table : List ℕ} (b : Ready m table) (c-small : c ≤ never) where
   pub clear-begun : {i : ℕ} → i ≡ cellOf m 0 0 → InClear m c i table table
   clear-begun e = record { from-here = omega arith; not-past = omega arith; same-length = refl; small = b .small; done = λ j h k. absurd (omega arith); rest = λ j h. refl }
 
@@ -121,13 +120,13 @@ pub record InLay (s cs : List ℕ) (k l m end : ℕ) (table₀ table : List ℕ)
   pub small : Small table
   pub left : (x y : ℕ) → x ≤ top → y ≤ top → (w : ℕ) → w < never → Left s (NowOne s (getD cs k 0) (drop (k + 1) cs) l x y w) (cell table m x y ≤ w) (Now s (getD cs k 0) (drop (k + 1) cs) w x y) p end
 
-pub blank-cleared : {m : ℕ} {table table′ : List ℕ} → Blank m table → Cleared m never table table′ → Blank m table′
-blank-cleared b d = record { in-half = b .in-half; size = d .others .same-length ∙ b .size; small = d .small }
+pub ready-cleared : {m : ℕ} {table table′ : List ℕ} → Ready m table → Cleared m never table table′ → Ready m table′
+ready-cleared b d = record { in-half = b .in-half; size = d .others .same-length ∙ b .size; small = d .small }
 
 pub gained-cleared : {s cs : List ℕ} {l m : ℕ} {table table′ next : List ℕ} → Cleared m never table table′ → LocationLaid s cs l m table′ next → LocationLaid s cs l m table next
 gained-cleared d g = record { others = record { same-length = g .others .same-length ∙ d .others .same-length; same = λ n x y f i j. g .others .same n x y f i j ∙ d .others .same n x y f i j }; small = g .small; laid = g .laid }
 
-module _ {s cs : List ℕ} {k l : ℕ} {low high : List ℕ} (a : Laying s cs k low high) (in-sheet : l < locations s) {m : ℕ} {table₀ : List ℕ} (b : Blank m table₀) where
+module _ {s cs : List ℕ} {k l : ℕ} {low high : List ℕ} (a : Laying s cs k low high) (in-sheet : l < locations s) {m : ℕ} {table₀ : List ℕ} (b : Ready m table₀) where
   pub lay-begun : {table : List ℕ} {v n : ℕ} → Cleared m never table table₀ → v ≡ word s (6 + 4 * l) → n ≡ word s (6 + 4 * l + 2) → InLay s cs k l m (v + n) table₀ table₀ v
   lay-begun {table} {v} {n} d e f = record {
     same-length = refl;
@@ -144,8 +143,8 @@ module _ {s cs : List ℕ} {k l : ℕ} {low high : List ℕ} (a : Laying s cs k 
     pub lay-fits : p < end → Fits s (transitionAt s p)
     lay-fits q = left-fits (h .left 0 0 (omega arith) (omega arith) 0 (omega arith)) q
 
-    pub lay-blank : Blank m table
-    lay-blank = record { in-half = b .in-half; size = h .same-length ∙ b .size; small = h .small }
+    pub lay-ready : Ready m table
+    lay-ready = record { in-half = b .in-half; size = h .same-length ∙ b .size; small = h .small }
 
     pub lay-next : {next : List ℕ} → p < end → Took (λ x y w. Now s (getD cs k 0) (drop (k + 1) cs) w x y (transitionAt s p)) m table next → InLay s cs k l m end table₀ next (p + 7)
     lay-next q d = record {

@@ -1,10 +1,10 @@
 -- Rows of a table of costs, a place at a time.
 -- Assumes nothing.
 use mathlib.Core.Path.{_≡_, refl, ap, _∙_, subst}
-use mathlib.Core.Bool.{Bool, true, false, cond}
+use mathlib.Core.Bool.{Bool, true, false}
 use mathlib.Core.List.{List}
 use mathlib.Core.Logic.{_⊎_, inl, inr, ⊎-elim}
-use Prim.Native.Nat.{ℕ, suc, _+_, _-_, _*_, _≤_, _<_, min}
+use Prim.Native.Nat.{ℕ, suc, _+_, _-_, _≤_, _<_, min}
 use native.Mathlib.Omega.{arith}
 use lib.Dec.{eqb}
 use lib.ListN.{length, getD, set, length-set}
@@ -13,7 +13,7 @@ use borrow.Author.Tests.{eqb-true, eqb-false}
 use Rattle.enforcement.specs.Model.{top, width}
 use Rattle.retimer.specs.Costs.{never}
 use Rattle.retimer.proofs.CostLaws.{le-or-lt}
-use Rattle.retimer.specs.Layers.{half, cellOf, cell, tick, Small, Blank, RowAsked, RowTicked, AllTicked, RowLowered}
+use Rattle.retimer.specs.Layers.{cellOf, cell, tick, Small, Ready, RowAsked, RowTicked, AllTicked, RowLowered}
 
 -- ---- By other costs
 
@@ -157,9 +157,9 @@ pub record InTicks (m y : ℕ) (table table′ : List ℕ) : Type 0 where
   pub done : (x z : ℕ) → x ≤ top → y ≤ z → z ≤ top → cell table′ m x z ≡ min (cell table m x z) (suc (cell table′ m (tick x) (tick z)))
   pub rest : (i : ℕ) → (i < cellOf m 0 y) ⊎ (cellOf (m + 1) 0 0 ≤ i) → getD table′ i 0 ≡ getD table i 0
 
-module _ {m : ℕ} {table : List ℕ} (blank : Blank m table) where
+module _ {m : ℕ} {table : List ℕ} (ready : Ready m table) where
   pub ticks-begun : InTicks m width table table
-  ticks-begun = record { y-fits = omega arith; same-length = refl; small = blank .small; done = λ x z h k l. absurd (omega arith); rest = λ i h. refl }
+  ticks-begun = record { y-fits = omega arith; same-length = refl; small = ready .small; done = λ x z h k l. absurd (omega arith); rest = λ i h. refl }
 
   module _ {y : ℕ} {table′ : List ℕ} (w : InTicks m y table table′) where
     pub ticks-done : y ≤ 0 → AllTicked m table table′
@@ -173,8 +173,8 @@ module _ {m : ℕ} {table : List ℕ} (blank : Blank m table) where
         away n x z f k l (inl o) = let g : n < m = omega arith in inl (omega arith)
         away n x z f k l (inr o) = inr (omega arith)
 
-    pub ticks-blank : Blank m table′
-    ticks-blank = record { in-half = blank .in-half; size = w .same-length ∙ blank .size; small = w .small }
+    pub ticks-ready : Ready m table′
+    ticks-ready = record { in-half = ready .in-half; size = w .same-length ∙ ready .size; small = w .small }
 
     pub ticks-next : {next : List ℕ} {here above : ℕ} → here ≡ cellOf m 0 (y - 1) → above ≡ cellOf m 0 (tick (y - 1)) → 0 < y → RowTicked here above table′ next → InTicks m (y - 1) table next
     ticks-next {next} {here} {above} here-is above-is some r = record { y-fits = let f = w .y-fits in omega arith; same-length = r .same-length ∙ w .same-length; small = little; done = λ x z. go x z (eqb z (y - 1)) refl; rest = rest }

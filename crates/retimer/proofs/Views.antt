@@ -27,7 +27,7 @@ use Rattle.retimer.specs.Reasons.{reasonOf}
 use Rattle.retimer.specs.Readings.{Standing}
 use Rattle.retimer.specs.Optimum.{modelOf}
 use Rattle.retimer.specs.View.{requestOf, slotOf, scheduleOf, view, StateSound}
-use Rattle.retimer.specs.Calls.{movedOf, movedTo, Done, lastAction, newDates, PlaceAsked, placedOf}
+use Rattle.retimer.specs.Calls.{movedOf, movedTo, Idle, Done, lastAction, newDates, PlaceAsked, placedOf}
 
 -- ---- The lists
 
@@ -101,10 +101,10 @@ module _ {s : Bytes} {live : List ℕ} where
 
   -- A refusal.
   pub refused-done : (q : State) (p : Reason) (w : model.Answered) → StateSound s live q → same (view q) (reasonOf p) ≡ w → Done s live q w (record { state = q; answer = Refused p })
-  refused-done q p w f e = record { is = e; sound = f; refused-same = λ x k. refl; held-count = λ n k. let z : _≡_ {A = ℕ} 0 1 = cc in absurd (omega arith) }
+  refused-done q p w f e = record { is = e; sound = f; refused-same = λ x k. refl; idle-same = λ z. absurd z; held-count = λ n k. let z : _≡_ {A = ℕ} 0 1 = cc in absurd (omega arith) }
 
-  pub plain-done : (q : State) (w : model.Answered) (r : Moved) → Plain (r .answer) → movedOf r ≡ w → StateSound s live (r .state) → Done s live q w r
-  plain-done q w r p e f = record { is = e; sound = f; refused-same = λ x k. absurd (subst Plain k p); held-count = λ n k. absurd (subst Plain k p) }
+  pub plain-done : (q : State) (w : model.Answered) (r : Moved) → Plain (r .answer) → (Idle (r .answer) → r .state ≡ movedTo q (r .state .date)) → movedOf r ≡ w → StateSound s live (r .state) → Done s live q w r
+  plain-done q w r p i e f = record { is = e; sound = f; idle-same = i; refused-same = λ x k. absurd (subst Plain k p); held-count = λ n k. absurd (subst Plain k p) }
 
   moved-sound : (q : State) (t : ℕ) → StateSound s live q → t ≤ maxDate → StateSound s live (movedTo q t)
   moved-sound q t f h = record { loads = f .loads; table = f .table; pending-sized = f .pending-sized; held-fits = f .held-fits; schedule-sized = f .schedule-sized; planned-fits = f .planned-fits; standing = f .standing; date-fits = h; last-fits = f .last-fits }
@@ -112,7 +112,7 @@ module _ {s : Bytes} {live : List ℕ} where
   -- Case 3.
   pub dropped-done : (q : State) (t : ℕ) (w : model.Answered) → StateSound s live q → t ≤ maxDate → answering dropped (dated (view q) t) ≡ w → Done s live q w (record { state = movedTo q t; answer = Dropped })
   unfolding view
-  dropped-done q t w f h e = plain-done q w (record { state = movedTo q t; answer = Dropped }) tt e (moved-sound q t f h)
+  dropped-done q t w f h e = plain-done q w (record { state = movedTo q t; answer = Dropped }) tt (λ z. refl) e (moved-sound q t f h)
 
   -- Case 2.
   holding-sound : (q : State) (c t : ℕ) → StateSound s live q → t ≤ maxDate → q .held < maxCount → StateSound s live (holding q c t)
@@ -133,6 +133,7 @@ module _ {s : Bytes} {live : List ℕ} where
     is = holding-is q c t f k;
     sound = holding-sound q c t f h k;
     refused-same = λ p e. let z : _≡_ {A = ℕ} 0 1 = cc in absurd (omega arith);
+    idle-same = λ z. absurd z;
     held-count = λ n e. let z : q .held + 1 ≡ n = cc in sym z ∙ sym (pending-length (holding q c t) (holding-sound q c t f h k));
   }
 
@@ -178,7 +179,7 @@ module _ {s : Bytes} {live : List ℕ} (q : State) (t : ℕ) (cs ds : List ℕ) 
 
     pub placed-done : length slots ≡ maxScheduled → Done s live q (placedOf s q t cs ds last) (record { state = placing q t slots l r last; answer = Scheduled (q .held + 1) last })
     placed-done n =
-        plain-done q (placedOf s q t cs ds last) (record { state = placing q t slots l r last; answer = Scheduled (q .held + 1) last }) tt placing-is
+        plain-done q (placedOf s q t cs ds last) (record { state = placing q t slots l r last; answer = Scheduled (q .held + 1) last }) tt (λ z. absurd z) placing-is
         (placing-sound q t slots l r last (p .sound) (p .early) n (omega (arith, p .sound .planned-fits)) (p .stands) h)
 
 -- A collection.
@@ -217,12 +218,12 @@ module _ {s : Bytes} {live : List ℕ} where
   playing-sound q t slots f h n = record { loads = f .loads; table = f .table; pending-sized = f .pending-sized; held-fits = f .held-fits; schedule-sized = n; planned-fits = omega (arith, f .planned-fits); standing = f .standing; date-fits = h; last-fits = f .last-fits }
 
   pub empty-done : (q : State) (t : ℕ) → StateSound s live q → t ≤ maxDate → q .planned ≡ 0 → Done s live q (oldest (view q) t (view q .schedule)) (record { state = movedTo q t; answer = Nothing })
-  empty-done q t f h z = plain-done q (oldest (view q) t (view q .schedule)) (record { state = movedTo q t; answer = Nothing }) tt (empty-is q t z) (moved-sound q t f h)
+  empty-done q t f h z = plain-done q (oldest (view q) t (view q .schedule)) (record { state = movedTo q t; answer = Nothing }) tt (λ z. refl) (empty-is q t z) (moved-sound q t f h)
 
   pub early-done : (q : State) (t : ℕ) → StateSound s live q → t ≤ maxDate → 0 < q .planned → t < first q .date → Done s live q (oldest (view q) t (view q .schedule)) (record { state = movedTo q t; answer = Nothing })
-  early-done q t f h k e = plain-done q (oldest (view q) t (view q .schedule)) (record { state = movedTo q t; answer = Nothing }) tt (early-is q t f k e) (moved-sound q t f h)
+  early-done q t f h k e = plain-done q (oldest (view q) t (view q .schedule)) (record { state = movedTo q t; answer = Nothing }) tt (λ z. refl) (early-is q t f k e) (moved-sound q t f h)
 
   pub played-done : (q : State) (t : ℕ) (slots : List Slot) → StateSound s live q → t ≤ maxDate → 0 < q .planned → first q .date ≤ t → take (q .planned - 1) slots ≡ drop 1 (take (q .planned) (q .schedule)) → length slots ≡ maxScheduled
       → Done s live q (oldest (view q) t (view q .schedule)) (record { state = playing q t slots; answer = Played (first q .action) (first q .date) })
   played-done q t slots f h k e g n =
-      plain-done q (oldest (view q) t (view q .schedule)) (record { state = playing q t slots; answer = Played (first q .action) (first q .date) }) tt (played-is q t slots f k e g) (playing-sound q t slots f h n)
+      plain-done q (oldest (view q) t (view q .schedule)) (record { state = playing q t slots; answer = Played (first q .action) (first q .date) }) tt (λ z. absurd z) (played-is q t slots f k e g) (playing-sound q t slots f h n)

@@ -58,11 +58,23 @@ movedTo q t = record { date = t; pending = q .pending; held = q .held; schedule 
 abbrev pub withState : Monitor → State → Monitor
 withState b q = record { bytes = b .bytes; size = b .size; live = b .live; state = q }
 
--- What the parts of a call promise: answer and state are those given; a refusal hands back the state that came; "held" has the held list's own length.
+-- Answers after which only the date may have moved.
+abbrev pub Idle : Answer → Type 0
+Idle (Scheduled n d) = ⊥
+Idle (Held n) = ⊥
+Idle Dropped = Unit {0}
+Idle (Played c d) = ⊥
+Idle Nothing = Unit {0}
+Idle Lit = Unit {0}
+Idle Dark = Unit {0}
+Idle (Refused r) = ⊥
+
+-- What the parts of a call promise: answer and state are those given; a refusal hands back the state that came, and where nothing is held, scheduled or played only its date may have moved; "held" has the held list's own length.
 pub record Done (s : Bytes) (live : List ℕ) (q : State) (w : model.Answered) (r : Moved) : Type 0 where
   pub is : movedOf r ≡ w
   pub sound : StateSound s live (r .state)
   pub refused-same : (p : Reason) → r .answer ≡ Refused p → r .state ≡ q
+  pub idle-same : Idle (r .answer) → r .state ≡ movedTo q (r .state .date)
   pub held-count : (n : ℕ) → r .answer ≡ Held n → n ≡ length (view (r .state) .pending)
 
 -- The action that joins the pending ones: the last of those to place.
@@ -103,15 +115,19 @@ pub record MoveRight (s : Bytes) (live : List ℕ) (q : State) (k : Call) (r : M
   pub rule : (h : History) → StandsFor (automaton s) (view q) h → Demand2 (automaton s) h k (movedOf r)
   pub valid : StateValid s live (r .state)
   pub refused-same : (p : Reason) → r .answer ≡ Refused p → r .state ≡ q
+  pub idle-same : Idle (r .answer) → r .state ≡ movedTo q (r .state .date)
   pub held-count : (n : ℕ) → r .answer ≡ Held n → n ≡ length (view (r .state) .pending)
 
 -- What a call promises (demand 2): answer and box are the model's; for every history that the box stands for, the answer is the history's, and the box
--- stands for the history after it; the box is one, of the same sheet; a refusal hands back the box that came; "held" has the held list's own length.
+-- stands for the history after it; the box is one, of the same sheet, and has its bytes and table as they were; a refusal hands back the box that came, and where nothing is held, scheduled or played only its date may have moved; "held"
+-- has the held list's own length.
 pub record CallRight (b : Monitor) (k : Call) (r : Answered) : Type 0 where
   pub is : answeredOf r ≡ answer (modelOf (bytesOf b)) (viewOf b) k
   pub rule : (h : History) → StandsFor (automatonOf b) (viewOf b) h → Demand2 (automatonOf b) h k (answeredOf r)
   pub valid : Valid (r .monitor)
   pub same-sheet : bytesOf (r .monitor) ≡ bytesOf b
+  pub kept : r .monitor ≡ withState b (r .monitor .state)
+  pub idle-same : Idle (r .answer) → r .monitor .state ≡ movedTo (b .state) (r .monitor .state .date)
   pub refused-same : (q : Reason) → r .answer ≡ Refused q → r .monitor ≡ b
   pub held-count : (n : ℕ) → r .answer ≡ Held n → n ≡ length (viewOf (r .monitor) .pending)
 

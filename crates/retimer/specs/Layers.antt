@@ -1,13 +1,13 @@
 -- Layers: the costs of all configurations with the same actions left, as tables of eight locations each.
 use mathlib.Core.Path.{_≡_}
-use mathlib.Core.Bool.{Bool, true, false, cond}
+use mathlib.Core.Bool.{true, false, cond}
 use mathlib.Core.List.{List, []}
 use mathlib.Core.Logic.{_⊎_, _↔_}
 use Prim.Native.Nat.{ℕ, suc, _+_, _-_, _*_, _≤_, _<_, min}
 use lib.ListN.{length, getD, drop}
 use Rattle.enforcement.specs.Limits.{maxCount}
 use Rattle.enforcement.specs.Automaton.{Bytes, Transition, bit, locations, transitions, enabled}
-use Rattle.enforcement.specs.TimedWord.{Configuration, fire}
+use Rattle.enforcement.specs.TimedWord.{fire}
 use Rattle.enforcement.specs.Loading.{Loads}
 use Rattle.enforcement.specs.Model.{top, width}
 use Rattle.retimer.specs.Steps.{One}
@@ -102,7 +102,7 @@ pub record Laying (s cs : List ℕ) (k : ℕ) (low high : List ℕ) : Type 0 whe
   pub high-layer : Layer s (drop (k + 1) cs) half high
 
 -- A table that is to have the costs of one more location.
-pub record Blank (m : ℕ) (table : List ℕ) : Type 0 where
+pub record Ready (m : ℕ) (table : List ℕ) : Type 0 where
   pub in-half : m < half
   pub size : length table ≡ half * (width * width)
   pub small : Small table

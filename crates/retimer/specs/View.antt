@@ -60,13 +60,13 @@ pub record Sound (b : Monitor) : Type 0 where
   pub size-fits : b .size ≤ maxSize
   pub state : StateSound (bytesOf b) (b .live) (b .state)
 
--- A state of a sheet: its parts fit, and it is what some list of calls gives from a fresh one.
+-- A state of a sheet: its parts fit, and its view is what some list of calls gives from a fresh one.
 pub record StateValid (s : Bytes) (live : List ℕ) (q : State) : Type 0 where
   pub sound : StateSound s live q
   pub past : List Call
   pub reached : view q ≡ calls (automaton s) past .monitor
 
--- A box: its parts fit, and it is what some list of calls gives from a fresh one. Every load and call promises this of the box that it gives, and a call asks for nothing else.
+-- A box: its parts fit, and its view is what some list of calls gives from a fresh one. Every load and call promises this of the box that it gives, and a call asks for nothing else.
 pub record Valid (b : Monitor) : Type 0 where
   pub sound : Sound b
   pub past : List Call

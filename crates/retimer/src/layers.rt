@@ -1,4 +1,4 @@
-// The costs of all configurations before each action of a list, from the last action back; those right after a reset are noted in the memos.
+// The costs of all configurations before each action of a list but the first, from the last action back; those right after a reset are noted in the memos.
 use crate::bytes;
 use crate::costs;
 use crate::limits::Monitor;
@@ -12,7 +12,7 @@ ghost use Rattle.enforcement.specs.Automaton.{locations, clocks, transitionAt};
 ghost use Rattle.enforcement.specs.Loading.{Loads, Fits};
 ghost use Rattle.enforcement.specs.Model.{top, width};
 ghost use Rattle.retimer.specs.Costs.{never, Ground};
-ghost use Rattle.retimer.specs.Layers.{cellOf, tick, RowAsked, RowTicked, half, AllTicked, LineAsked, RowLowered, BoxLowered, Now, Laying, Blank, Cleared, Took, LocationLaid, OneLaid, Noting, Full, Ended, LayersOf, Filled};
+ghost use Rattle.retimer.specs.Layers.{cellOf, tick, RowAsked, RowTicked, half, AllTicked, LineAsked, RowLowered, BoxLowered, Now, Laying, Ready, Cleared, Took, LocationLaid, OneLaid, Noting, Full, Ended, LayersOf, Filled};
 
 // A table has the costs of as many locations.
 const HALF: usize = Monitor::COUNT / 2;
@@ -60,7 +60,7 @@ fn tick_row(table: &mut [u16], here: usize)
 
 // The row y of a location.
 fn tick_at(table: &mut [u16], m: usize, y: usize)
-    requires { ⌜ (Blank m (now table)) × (y ≤ top) ⌝ }
+    requires { ⌜ (Ready m (now table)) × (y ≤ top) ⌝ }
     ensures { λ _. ⌜ RowTicked (cellOf m 0 y) (cellOf m 0 (tick y)) (now (table .entry)) (now (table .exit)) ⌝ }
 {
     let here = (m * Monitor::WIDTH + y) * Monitor::WIDTH;
@@ -73,7 +73,7 @@ fn tick_at(table: &mut [u16], m: usize, y: usize)
 
 // All rows of a location.
 fn ticks(table: &mut [u16], m: usize)
-    requires { ⌜ Blank m (now table) ⌝ }
+    requires { ⌜ Ready m (now table) ⌝ }
     ensures { λ _. ⌜ AllTicked m (now (table .entry)) (now (table .exit)) ⌝ }
 {
     let mut y = Monitor::WIDTH;
@@ -171,7 +171,7 @@ fn rule(
     table: &mut [u16],
     m: usize,
 )
-    requires { ⌜ (Laying (now s) (now cs) k (now low) (now high)) × (((p + 7 ≤ length (now s)) × (Fits (now s) (transitionAt (now s) p))) × (Blank m (now table))) ⌝ }
+    requires { ⌜ (Laying (now s) (now cs) k (now low) (now high)) × (((p + 7 ≤ length (now s)) × (Fits (now s) (transitionAt (now s) p))) × (Ready m (now table))) ⌝ }
     ensures { λ _. ⌜ Took (λ x y w. Now (now (s .entry)) (getD (now (cs .entry)) k 0) (drop (k + 1) (now (cs .entry))) w x y (transitionAt (now (s .entry)) p)) m (now (table .entry)) (now (table .exit)) ⌝ }
 {
     if s[p] != cs[k] {
@@ -187,7 +187,7 @@ fn rule(
 
 // The same cost everywhere at a location.
 fn clear(table: &mut [u16], m: usize, c: u16)
-    requires { ⌜ (Blank m (now table)) × (c ≤ never) ⌝ }
+    requires { ⌜ (Ready m (now table)) × (c ≤ never) ⌝ }
     ensures { λ _. ⌜ Cleared m c (now (table .entry)) (now (table .exit)) ⌝ }
 {
     let mut i = m * AREA;
@@ -209,7 +209,7 @@ fn lay(
     table: &mut [u16],
     m: usize,
 )
-    requires { ⌜ (Laying (now s) (now cs) k (now low) (now high)) × ((l < locations (now s)) × (Blank m (now table))) ⌝ }
+    requires { ⌜ (Laying (now s) (now cs) k (now low) (now high)) × ((l < locations (now s)) × (Ready m (now table))) ⌝ }
     ensures { λ _. ⌜ LocationLaid (now (s .entry)) (drop k (now (cs .entry))) l m (now (table .entry)) (now (table .exit)) ⌝ }
 {
     clear(table, m, costs::NEVER);
@@ -236,7 +236,7 @@ fn lay_and_note(
     first: &mut [u16],
     second: &mut [u16],
 )
-    requires { ⌜ ((Laying (now s) (now cs) k (now low) (now high)) × (1 ≤ k)) × (((l < locations (now s)) × (Blank m (now table))) × (Ground (now s) (now cs) (now first) (now second))) ⌝ }
+    requires { ⌜ ((Laying (now s) (now cs) k (now low) (now high)) × (1 ≤ k)) × (((l < locations (now s)) × (Ready m (now table))) × (Ground (now s) (now cs) (now first) (now second))) ⌝ }
     ensures { λ _. ⌜ (LocationLaid (now (s .entry)) (drop k (now (cs .entry))) l m (now (table .entry)) (now (table .exit))) × (Noting (now (s .entry)) (now (cs .entry)) k l (now (first .entry)) (now (second .entry)) (now (first .exit)) (now (second .exit))) ⌝ }
 {
     lay(s, cs, k, l, low, high, table, m);
@@ -262,7 +262,7 @@ fn lay_one(
     first: &mut [u16],
     second: &mut [u16],
 )
-    requires { ⌜ ((Laying (now s) (now cs) k (now low) (now high)) × ((1 ≤ k) × (l < locations (now s)))) × (((Blank 0 (now newlow)) × (Blank 0 (now newhigh))) × (Ground (now s) (now cs) (now first) (now second))) ⌝ }
+    requires { ⌜ ((Laying (now s) (now cs) k (now low) (now high)) × ((1 ≤ k) × (l < locations (now s)))) × (((Ready 0 (now newlow)) × (Ready 0 (now newhigh))) × (Ground (now s) (now cs) (now first) (now second))) ⌝ }
     ensures { λ _. ⌜ (OneLaid (now (s .entry)) (drop k (now (cs .entry))) l (now (newlow .entry)) (now (newhigh .entry)) (now (newlow .exit)) (now (newhigh .exit))) × (((length (now (first .exit)) ≡ length (now (first .entry))) × (length (now (second .exit)) ≡ length (now (second .entry)))) × (Noting (now (s .entry)) (now (cs .entry)) k l (now (first .entry)) (now (second .entry)) (now (first .exit)) (now (second .exit)))) ⌝ }
 {
     if l < HALF {
@@ -284,7 +284,7 @@ fn lay_all(
     first: &mut [u16],
     second: &mut [u16],
 )
-    requires { ⌜ ((Laying (now s) (now cs) k (now low) (now high)) × (1 ≤ k)) × (((Blank 0 (now newlow)) × (Blank 0 (now newhigh))) × ((Ground (now s) (now cs) (now first) (now second)) × (Full (now s) (now cs) (k + 1) (now first) (now second)))) ⌝ }
+    requires { ⌜ ((Laying (now s) (now cs) k (now low) (now high)) × (1 ≤ k)) × (((Ready 0 (now newlow)) × (Ready 0 (now newhigh))) × ((Ground (now s) (now cs) (now first) (now second)) × (Full (now s) (now cs) (k + 1) (now first) (now second)))) ⌝ }
     ensures { λ _. ⌜ LayersOf (now (s .entry)) (now (cs .entry)) k (now (newlow .exit)) (now (newhigh .exit)) (now (first .exit)) (now (second .exit)) ⌝ }
 {
     let mut l = 0;
@@ -296,7 +296,7 @@ fn lay_all(
 
 // The costs of a location where all is played, in its table.
 fn end_one(s: &[u8], l: usize, low: &mut [u16], high: &mut [u16])
-    requires { ⌜ ((Loads (now s)) × (l < locations (now s))) × ((Blank 0 (now low)) × (Blank 0 (now high))) ⌝ }
+    requires { ⌜ ((Loads (now s)) × (l < locations (now s))) × ((Ready 0 (now low)) × (Ready 0 (now high))) ⌝ }
     ensures { λ _. ⌜ OneLaid (now (s .entry)) [] l (now (low .entry)) (now (high .entry)) (now (low .exit)) (now (high .exit)) ⌝ }
 {
     let c = costs::ending(s, l as u8);
@@ -309,7 +309,7 @@ fn end_one(s: &[u8], l: usize, low: &mut [u16], high: &mut [u16])
 
 // The costs of all locations where all is played.
 fn end_all(s: &[u8], low: &mut [u16], high: &mut [u16])
-    requires { ⌜ (Loads (now s)) × ((Blank 0 (now low)) × (Blank 0 (now high))) ⌝ }
+    requires { ⌜ (Loads (now s)) × ((Ready 0 (now low)) × (Ready 0 (now high))) ⌝ }
     ensures { λ _. ⌜ Ended (now (s .entry)) (now (low .exit)) (now (high .exit)) ⌝ }
 {
     let mut l = 0;
@@ -331,7 +331,7 @@ fn descend(
     first: &mut [u16],
     second: &mut [u16],
 )
-    requires { ⌜ ((LayersOf (now s) (now cs) k (now low) (now high) (now first) (now second)) × (k ≤ length (now cs))) × ((Blank 0 (now newlow)) × (Blank 0 (now newhigh))) ⌝ }
+    requires { ⌜ ((LayersOf (now s) (now cs) k (now low) (now high) (now first) (now second)) × (k ≤ length (now cs))) × ((Ready 0 (now newlow)) × (Ready 0 (now newhigh))) ⌝ }
     ensures { λ _. ⌜ Filled (now (s .entry)) (now (cs .entry)) (now (first .exit)) (now (second .exit)) ⌝ }
 {
     if k <= 1 {
@@ -352,7 +352,7 @@ fn with_tables(
     first: &mut [u16],
     second: &mut [u16],
 )
-    requires { ⌜ ((Ground (now s) (now cs) (now first) (now second)) × (n ≤ 3)) × ((1 ≤ n → Blank 0 (now low)) × ((2 ≤ n → Blank 0 (now high)) × (3 ≤ n → Blank 0 (now newlow)))) ⌝ }
+    requires { ⌜ ((Ground (now s) (now cs) (now first) (now second)) × (n ≤ 3)) × ((1 ≤ n → Ready 0 (now low)) × ((2 ≤ n → Ready 0 (now high)) × (3 ≤ n → Ready 0 (now newlow)))) ⌝ }
     ensures { λ _. ⌜ Filled (now (s .entry)) (now (cs .entry)) (now (first .exit)) (now (second .exit)) ⌝ }
 {
     let mut own = [0u16; SIZE];

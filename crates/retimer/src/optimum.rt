@@ -187,7 +187,7 @@ fn plan_few<'a>(
     plan_few(s, cs, l, r, t, out, &mut own, true)
 }
 
-// Any list, in the same way.
+// Any list, in the same way. On two clocks all that the memos can have is worked out first, so that no sheet makes the search long.
 fn plan_many<'a>(
     s: &'a [u8],
     cs: &'a [u8],

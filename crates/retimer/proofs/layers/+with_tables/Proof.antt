@@ -5,7 +5,7 @@ use mathlib.Core.Path.{refl}
 use Prim.Native.Nat.{_-_, _*_}
 use Rattle.enforcement.specs.Model.{width}
 use Rattle.retimer.specs.Layers.{half}
-use Rattle.retimer.proofs.LayingAll.{blank-none, layers-ended}
+use Rattle.retimer.proofs.LayingAll.{ready-none, layers-ended}
 use Prim.Native.Nat.{ℕ, _<_}
 use borrow.Fn.Kinds.{In}
 use borrow.Fn.PlainCycle.{Measures, is, falls, and}
@@ -49,7 +49,7 @@ with-tables-with-tables-requires : (t : ℕ) → with-tables-lts.Need-with-table
   descend-reads.Asked,
   descend-reads.Learnt,
 ) (with-tables-at t) with-tables.Post
-with-tables-with-tables-requires t c κs = (omega (arith, c .before .before .before .before .before .before .before .before .before .before .before .before .before .pre .0), ((c .before .before .before .before .before .before .before .before .before .before .before .before .before .pre .1 .0 .0, omega arith), ((λ h. blank-none (half * (width * width)) (omega arith)), ((λ h. absurd (omega arith)), (λ h. absurd (omega arith))))))
+with-tables-with-tables-requires t c κs = (omega (arith, c .before .before .before .before .before .before .before .before .before .before .before .before .before .pre .0), ((c .before .before .before .before .before .before .before .before .before .before .before .before .before .pre .1 .0 .0, omega arith), ((λ h. ready-none (half * (width * width)) (omega arith)), ((λ h. absurd (omega arith)), (λ h. absurd (omega arith))))))
 
 -- src/layers.rt:275:9
 with-tables-same-length : (t : ℕ) → with-tables-lts.Need-same-length (
@@ -127,7 +127,7 @@ with-tables-with-tables-requires-2 : (t : ℕ) → with-tables-lts.Need-with-tab
   descend-reads.Asked,
   descend-reads.Learnt,
 ) (with-tables-at t) with-tables.Post
-with-tables-with-tables-requires-2 t c κs = (omega (arith, c .before .before .before .before .before .before .before .before .before .before .before .before .before .before .pre .0), ((c .before .before .before .before .before .before .before .before .before .before .before .before .before .before .pre .1 .0 .0, omega arith), ((λ h. c .before .before .before .before .before .before .before .before .before .before .before .before .before .before .pre .1 .1 .0 (omega arith)), ((λ h. blank-none (half * (width * width)) (omega arith)), (λ h. absurd (omega arith))))))
+with-tables-with-tables-requires-2 t c κs = (omega (arith, c .before .before .before .before .before .before .before .before .before .before .before .before .before .before .pre .0), ((c .before .before .before .before .before .before .before .before .before .before .before .before .before .before .pre .1 .0 .0, omega arith), ((λ h. c .before .before .before .before .before .before .before .before .before .before .before .before .before .before .pre .1 .1 .0 (omega arith)), ((λ h. ready-none (half * (width * width)) (omega arith)), (λ h. absurd (omega arith))))))
 
 -- src/layers.rt:279:9
 with-tables-same-length-5 : (t : ℕ) → with-tables-lts.Need-same-length-5 (
@@ -205,7 +205,7 @@ with-tables-with-tables-requires-3 : (t : ℕ) → with-tables-lts.Need-with-tab
   descend-reads.Asked,
   descend-reads.Learnt,
 ) (with-tables-at t) with-tables.Post
-with-tables-with-tables-requires-3 t c κs = (omega (arith, c .before .before .before .before .before .before .before .before .before .before .before .before .before .before .before .pre .0), ((c .before .before .before .before .before .before .before .before .before .before .before .before .before .before .before .pre .1 .0 .0, omega arith), ((λ h. c .before .before .before .before .before .before .before .before .before .before .before .before .before .before .before .pre .1 .1 .0 (omega arith)), ((λ h. c .before .before .before .before .before .before .before .before .before .before .before .before .before .before .before .pre .1 .1 .1 .0 (omega arith)), (λ h. blank-none (half * (width * width)) (omega arith))))))
+with-tables-with-tables-requires-3 t c κs = (omega (arith, c .before .before .before .before .before .before .before .before .before .before .before .before .before .before .before .pre .0), ((c .before .before .before .before .before .before .before .before .before .before .before .before .before .before .before .pre .1 .0 .0, omega arith), ((λ h. c .before .before .before .before .before .before .before .before .before .before .before .before .before .before .before .pre .1 .1 .0 (omega arith)), ((λ h. c .before .before .before .before .before .before .before .before .before .before .before .before .before .before .before .pre .1 .1 .1 .0 (omega arith)), (λ h. ready-none (half * (width * width)) (omega arith))))))
 
 -- src/layers.rt:283:9
 with-tables-same-length-9 : (t : ℕ) → with-tables-lts.Need-same-length-9 (
@@ -293,7 +293,7 @@ with-tables-descend-requires : (t : ℕ) → with-tables-lts.Need-descend-requir
   descend-reads.Asked,
   descend-reads.Learnt,
 ) (with-tables-at t) with-tables.Post
-with-tables-descend-requires t c κs = ((layers-ended (c .before .before .before .before .before .before .before .before .before .before .end-all .ensures) (c .before .before .before .before .before .before .before .before .before .before .before .before .before .before .before .before .before .before .before .before .before .before .before .pre .1 .0 .0), omega arith), (c .before .before .before .before .before .before .before .before .before .before .before .before .before .before .before .before .before .before .before .before .before .before .before .pre .1 .1 .1 .1 (let q = c .before .before .before .before .before .before .before .before .before .before .before .before .before .before .before .before .before .before .before .before .before .before .before .pre .1 .0 .1 in omega arith), blank-none (half * (width * width)) (omega arith)))
+with-tables-descend-requires t c κs = ((layers-ended (c .before .before .before .before .before .before .before .before .before .before .end-all .ensures) (c .before .before .before .before .before .before .before .before .before .before .before .before .before .before .before .before .before .before .before .before .before .before .before .pre .1 .0 .0), omega arith), (c .before .before .before .before .before .before .before .before .before .before .before .before .before .before .before .before .before .before .before .before .before .before .before .pre .1 .1 .1 .1 (let q = c .before .before .before .before .before .before .before .before .before .before .before .before .before .before .before .before .before .before .before .before .before .before .before .pre .1 .0 .1 in omega arith), ready-none (half * (width * width)) (omega arith)))
 
 -- src/layers.rt:259:1
 with-tables-same-length-13 : (t : ℕ) → with-tables-lts.Need-same-length-13 (

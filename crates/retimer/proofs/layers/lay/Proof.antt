@@ -4,7 +4,7 @@ use native.Mathlib.Omega.{arith}
 use mathlib.Core.Path.{_∙_}
 use Prim.Native.Nat.{_-_}
 use Rattle.enforcement.proofs.Loading.{header, pairs-fit}
-use Rattle.retimer.proofs.LayingLocations.{blank-cleared, gained-cleared, InLay, lay-begun, lay-inside, lay-fits, lay-blank, lay-next, lay-done}
+use Rattle.retimer.proofs.LayingLocations.{ready-cleared, gained-cleared, InLay, lay-begun, lay-inside, lay-fits, lay-ready, lay-next, lay-done}
 use Rattle.retimer.proofs.layers.lay.Statement.{statement}
 use Rattle.retimer.proofs.layers.lay.Tie as tie
 use Rattle.retimer.proofs.layers.lay.Reads as reads
@@ -50,15 +50,15 @@ add-end c = omega (arith, c .before .word-at .ensures .1, c .word-at2 .ensures .
 
 -- src/layers.rt:129:5
 loop-holds : tie.Need-loop-holds Inv-loop μ-loop
-loop-holds c = lay-begun (c .before .before .before .before .before .before .before .before .before .before .before .pre .0) (c .before .before .before .before .before .before .before .before .before .before .before .pre .1 .0) (blank-cleared (c .before .before .before .before .before .before .before .before .before .before .before .pre .1 .1) (c .before .before .before .before .clear .ensures)) (c .before .before .before .before .clear .ensures) (c .before .word-at .ensures .0) (c .word-at2 .ensures .0)
+loop-holds c = lay-begun (c .before .before .before .before .before .before .before .before .before .before .before .pre .0) (c .before .before .before .before .before .before .before .before .before .before .before .pre .1 .0) (ready-cleared (c .before .before .before .before .before .before .before .before .before .before .before .pre .1 .1) (c .before .before .before .before .clear .ensures)) (c .before .before .before .before .clear .ensures) (c .before .word-at .ensures .0) (c .word-at2 .ensures .0)
 
 -- src/layers.rt:130:9
 rule-requires : tie.Need-rule-requires Inv-loop μ-loop
-rule-requires c κs = (c .before .before .before .before .before .before .before .before .before .before .before .before .before .before .pre .0, ((lay-inside (c .before .before .before .before .before .before .before .before .before .before .before .before .before .before .pre .0) (c .before .before .before .before .before .before .before .before .before .before .before .before .before .before .pre .1 .0) (blank-cleared (c .before .before .before .before .before .before .before .before .before .before .before .before .before .before .pre .1 .1) (c .before .before .before .before .before .before .before .clear .ensures)) (c .before .before .loop .inv) (omega arith), lay-fits (c .before .before .before .before .before .before .before .before .before .before .before .before .before .before .pre .0) (c .before .before .before .before .before .before .before .before .before .before .before .before .before .before .pre .1 .0) (blank-cleared (c .before .before .before .before .before .before .before .before .before .before .before .before .before .before .pre .1 .1) (c .before .before .before .before .before .before .before .clear .ensures)) (c .before .before .loop .inv) (omega arith)), lay-blank (c .before .before .before .before .before .before .before .before .before .before .before .before .before .before .pre .0) (c .before .before .before .before .before .before .before .before .before .before .before .before .before .before .pre .1 .0) (blank-cleared (c .before .before .before .before .before .before .before .before .before .before .before .before .before .before .pre .1 .1) (c .before .before .before .before .before .before .before .clear .ensures)) (c .before .before .loop .inv)))
+rule-requires c κs = (c .before .before .before .before .before .before .before .before .before .before .before .before .before .before .pre .0, ((lay-inside (c .before .before .before .before .before .before .before .before .before .before .before .before .before .before .pre .0) (c .before .before .before .before .before .before .before .before .before .before .before .before .before .before .pre .1 .0) (ready-cleared (c .before .before .before .before .before .before .before .before .before .before .before .before .before .before .pre .1 .1) (c .before .before .before .before .before .before .before .clear .ensures)) (c .before .before .loop .inv) (omega arith), lay-fits (c .before .before .before .before .before .before .before .before .before .before .before .before .before .before .pre .0) (c .before .before .before .before .before .before .before .before .before .before .before .before .before .before .pre .1 .0) (ready-cleared (c .before .before .before .before .before .before .before .before .before .before .before .before .before .before .pre .1 .1) (c .before .before .before .before .before .before .before .clear .ensures)) (c .before .before .loop .inv) (omega arith)), lay-ready (c .before .before .before .before .before .before .before .before .before .before .before .before .before .before .pre .0) (c .before .before .before .before .before .before .before .before .before .before .before .before .before .before .pre .1 .0) (ready-cleared (c .before .before .before .before .before .before .before .before .before .before .before .before .before .before .pre .1 .1) (c .before .before .before .before .before .before .before .clear .ensures)) (c .before .before .loop .inv)))
 
 -- src/layers.rt:131:9
 add-p : tie.Need-add-p Inv-loop μ-loop
-add-p c = let i = lay-inside (c .before .before .before .before .before .before .before .before .before .before .before .before .before .before .before .before .before .pre .0) (c .before .before .before .before .before .before .before .before .before .before .before .before .before .before .before .before .before .pre .1 .0) (blank-cleared (c .before .before .before .before .before .before .before .before .before .before .before .before .before .before .before .before .before .pre .1 .1) (c .before .before .before .before .before .before .before .before .before .before .clear .ensures)) (c .before .before .before .before .before .loop .inv) (omega arith) in search needs
+add-p c = let i = lay-inside (c .before .before .before .before .before .before .before .before .before .before .before .before .before .before .before .before .before .pre .0) (c .before .before .before .before .before .before .before .before .before .before .before .before .before .before .before .before .before .pre .1 .0) (ready-cleared (c .before .before .before .before .before .before .before .before .before .before .before .before .before .before .before .before .before .pre .1 .1) (c .before .before .before .before .before .before .before .before .before .before .clear .ensures)) (c .before .before .before .before .before .loop .inv) (omega arith) in search needs
 
 -- src/layers.rt:129:5
 loop-less : tie.Need-loop-less Inv-loop μ-loop
@@ -66,11 +66,11 @@ loop-less c = search needs
 
 -- src/layers.rt:129:5
 loop-again : tie.Need-loop-again Inv-loop μ-loop
-loop-again c = lay-next (c .before .before .before .before .before .before .before .before .before .before .before .before .before .before .before .before .before .pre .0) (c .before .before .before .before .before .before .before .before .before .before .before .before .before .before .before .before .before .pre .1 .0) (blank-cleared (c .before .before .before .before .before .before .before .before .before .before .before .before .before .before .before .before .before .pre .1 .1) (c .before .before .before .before .before .before .before .before .before .before .clear .ensures)) (c .before .before .before .before .before .loop .inv) (omega arith) (c .before .before .rule .ensures)
+loop-again c = lay-next (c .before .before .before .before .before .before .before .before .before .before .before .before .before .before .before .before .before .pre .0) (c .before .before .before .before .before .before .before .before .before .before .before .before .before .before .before .before .before .pre .1 .0) (ready-cleared (c .before .before .before .before .before .before .before .before .before .before .before .before .before .before .before .before .before .pre .1 .1) (c .before .before .before .before .before .before .before .before .before .before .clear .ensures)) (c .before .before .before .before .before .loop .inv) (omega arith) (c .before .before .rule .ensures)
 
 -- src/layers.rt:133:5
 ticks-requires : tie.Need-ticks-requires Inv-loop μ-loop
-ticks-requires c κs = lay-blank (c .before .before .before .before .before .before .before .before .before .before .before .before .before .before .pre .0) (c .before .before .before .before .before .before .before .before .before .before .before .before .before .before .pre .1 .0) (blank-cleared (c .before .before .before .before .before .before .before .before .before .before .before .before .before .before .pre .1 .1) (c .before .before .before .before .before .before .before .clear .ensures)) (c .before .before .loop .inv)
+ticks-requires c κs = lay-ready (c .before .before .before .before .before .before .before .before .before .before .before .before .before .before .pre .0) (c .before .before .before .before .before .before .before .before .before .before .before .before .before .before .pre .1 .0) (ready-cleared (c .before .before .before .before .before .before .before .before .before .before .before .before .before .before .pre .1 .1) (c .before .before .before .before .before .before .before .clear .ensures)) (c .before .before .loop .inv)
 
 -- src/layers.rt:121:1
 same-length : tie.Need-same-length Inv-loop μ-loop
@@ -78,7 +78,7 @@ same-length c = c .before .before .ticks .ensures .others .same-length ∙ c .be
 
 -- src/layers.rt:121:1
 returns : tie.Need-returns Inv-loop μ-loop
-returns c = gained-cleared (c .before .before .before .before .before .before .before .before .before .before .clear .ensures) (lay-done (c .before .before .before .before .before .before .before .before .before .before .before .before .before .before .before .before .before .pre .0) (c .before .before .before .before .before .before .before .before .before .before .before .before .before .before .before .before .before .pre .1 .0) (blank-cleared (c .before .before .before .before .before .before .before .before .before .before .before .before .before .before .before .before .before .pre .1 .1) (c .before .before .before .before .before .before .before .before .before .before .clear .ensures)) (c .before .before .before .before .before .loop .inv) (omega arith) (c .before .before .ticks .ensures))
+returns c = gained-cleared (c .before .before .before .before .before .before .before .before .before .before .clear .ensures) (lay-done (c .before .before .before .before .before .before .before .before .before .before .before .before .before .before .before .before .before .pre .0) (c .before .before .before .before .before .before .before .before .before .before .before .before .before .before .before .before .before .pre .1 .0) (ready-cleared (c .before .before .before .before .before .before .before .before .before .before .before .before .before .before .before .before .before .pre .1 .1) (c .before .before .before .before .before .before .before .before .before .before .clear .ensures)) (c .before .before .before .before .before .loop .inv) (omega arith) (c .before .before .ticks .ensures))
 
 pub lay-spec : {M : Type 1} → statement M
 lay-spec =

@@ -1,7 +1,6 @@
 -- `layers::lay_and_note` meets its contract. Assumes nothing.
 use borrow.Author.Needs.{needs}
 use native.Mathlib.Omega.{arith}
-use mathlib.Core.Path.{refl}
 use Prim.Native.Nat.{_+_, _-_, _*_}
 use Rattle.enforcement.specs.Model.{width}
 use Rattle.enforcement.proofs.Loading.{header}

@@ -4,7 +4,6 @@ use lib.ListN.{getD}
 use Prim.Native.Nat.{_+_}
 use mathlib.Core.Bool.{Bool, true, false, cond}
 use mathlib.Core.Path.{_≡_, subst⁻¹}
-use native.Mathlib.Omega.{arith}
 use borrow.Author.Needs.{needs}
 use Rattle.retimer.proofs.layers.lower_row.Statement.{statement}
 use Rattle.retimer.proofs.layers.lower_row.Tie as tie

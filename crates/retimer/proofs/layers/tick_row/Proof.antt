@@ -2,7 +2,7 @@
 use native.Mathlib.Omega.{arith}
 use borrow.Author.Needs.{needs}
 use mathlib.Core.List.{List}
-use mathlib.Core.Path.{refl, subst⁻¹}
+use mathlib.Core.Path.{subst⁻¹}
 use Rattle.enforcement.specs.Model.{top, width}
 use Prim.Native.Nat.{ℕ, _+_, _-_, _≤_}
 use Rattle.retimer.proofs.LayingRows.{InLower, lower-begun, lower-done, lower-next, after, after-is, after-small, row-ticked}

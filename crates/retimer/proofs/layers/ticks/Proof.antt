@@ -1,7 +1,7 @@
 -- `layers::ticks` meets its contract. Assumes nothing.
 use native.Mathlib.Omega.{arith}
 use borrow.Author.Needs.{needs}
-use Rattle.retimer.proofs.LayingRows.{InTicks, ticks-begun, ticks-done, ticks-blank, ticks-next}
+use Rattle.retimer.proofs.LayingRows.{InTicks, ticks-begun, ticks-done, ticks-ready, ticks-next}
 use mathlib.Core.Path.{refl}
 use Rattle.retimer.proofs.layers.ticks.Statement.{statement}
 use Rattle.retimer.proofs.layers.ticks.Tie as tie
@@ -25,7 +25,7 @@ sub-y c = search needs
 
 -- src/layers.rt:82:9
 tick-at-requires : tie.Need-tick-at-requires Inv-loop μ-loop
-tick-at-requires c κs = (ticks-blank (c .before .before .before .before .pre) (c .before .before .loop .inv), omega (arith, c .before .before .loop .inv .y-fits))
+tick-at-requires c κs = (ticks-ready (c .before .before .before .before .pre) (c .before .before .loop .inv), omega (arith, c .before .before .loop .inv .y-fits))
 
 -- src/layers.rt:80:5
 loop-less : tie.Need-loop-less Inv-loop μ-loop

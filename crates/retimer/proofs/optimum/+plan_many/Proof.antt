@@ -7,7 +7,6 @@ use Prim.Native.Nat.{_+_}
 use Rattle.enforcement.specs.Limits.{maxCount}
 use Rattle.retimer.specs.Costs.{placesFor}
 use Rattle.retimer.proofs.Memos.{known-none}
-use Rattle.retimer.specs.Costs.{Ground}
 use Prim.Native.Nat.{ℕ, _<_}
 use borrow.Fn.Kinds.{In}
 use borrow.Fn.PlainCycle.{Measures, is, falls, and}
