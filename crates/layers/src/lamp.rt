@@ -2,14 +2,10 @@
 use crate::guarded;
 use crate::print;
 use retimer::lamp;
-use retimer::limits::Monitor;
 use retimer::liveness;
 
 fn lit<'a>(s: &'a [u8], cs: &'a [u8], l: u8, x: u8, y: u8) {
     if !guarded::stands(s, l, x, y) {
-        return;
-    }
-    if Monitor::COUNT < cs.len() {
         return;
     }
     let table = liveness::live_table(s);

@@ -36,7 +36,7 @@ linesOf m b n (k ∷ ks) = lineOf m (suc n) (answer m b k) ++ linesOf m (answer 
 abbrev pub blockText : Compiled → model.Monitor → ℕ → Bytes → List ℕ
 blockText m b n s = linesOf m b n (callsOf s) ++ tailLine (length s % 5)
 
--- The text of the block is written at the front of the buffer; the box is the model's after the block's calls, of the same sheet.
+-- The text of the block is written at the front of the buffer; the box is the model's after the block's calls, of the same sheet, and has its bytes and table as they were.
 pub record MarkRight (b : Monitor) (s : Bytes) (n : ℕ) (before after : List ℕ) (r : Marked) : Type 0 where
   pub wrote : Wrote before 0 (blockText (modelOf (bytesOf b)) (viewOf b) n s) after (r .size)
   pub counts : Counts (r .size) after

@@ -57,10 +57,8 @@ plan-asked {s} {live} {q} {t} {start} {here} {cs} a n d =
       room = omega (arith, f .held-fits);
     }
 
-pub lamp-asked : {s : Bytes} {live : List ℕ} (q : State) (n : ℕ) (here : List ℕ) → StateSound s live q → here ≡ waited n (q .readings) → LampAsked s live (q .location) here × (length (take (q .held) (q .pending)) ≤ maxCount)
-lamp-asked {s} q n here f e =
-    let k : length (take (q .held) (q .pending)) ≡ q .held = length-take-le (q .held) (q .pending) (omega (arith, f .pending-sized, f .held-fits)) in
-    (record { loads = f .loads; table = f .table; standing = rw e (standing-waited s (q .location) n (q .readings) (f .standing)) }, omega (arith, f .held-fits))
+pub lamp-asked : {s : Bytes} {live : List ℕ} (q : State) (n : ℕ) (here : List ℕ) → StateSound s live q → here ≡ waited n (q .readings) → LampAsked s live (q .location) here
+lamp-asked {s} q n here f e = record { loads = f .loads; table = f .table; standing = rw e (standing-waited s (q .location) n (q .readings) (f .standing)) }
 
 pub lamp-as : (s : Bytes) (q : State) (start : ℕ) (here : List ℕ) (x : Bool) → start ≡ max (q .date) (q .last) → here ≡ waited (start - q .last) (q .readings)
     → x ≡ isLit (modelOf s) (located (q .location) here) (take (q .held) (q .pending)) → lampLit (modelOf s) (view q) ≡ x

@@ -9,10 +9,10 @@ use native.Mathlib.Omega.{arith}
 use lib.Dec.{eqb}
 use lib.ListN.{length, getD}
 use borrow.Author.Tests.{eqb-true, eqb-false}
-use Rattle.enforcement.specs.Automaton.{Transition, bit, within}
-use Rattle.enforcement.specs.Loading.{Bounds}
+use Rattle.enforcement.specs.Automaton.{Bytes, Transition, bit, within}
+use Rattle.enforcement.specs.Loading.{Bounds, Fits}
 use Rattle.enforcement.specs.Model.{top, width}
-use Rattle.retimer.specs.Sets.{past}
+use Rattle.retimer.specs.Readings.{past}
 use Rattle.retimer.specs.Layers.{cellOf, cell, RowLowered, BoxLowered}
 use Rattle.retimer.proofs.sets.Bounding.{enabled-tests, past-ordered, within-past, within-inside}
 use Rattle.retimer.proofs.CostLaws.{le-or-lt}
@@ -33,8 +33,15 @@ apart r x b lo hi h k l (inr (inr m)) = go (le-or-lt b r) (le-or-lt r b) m
 pub first-bit : (set : ℕ) → eqb (set % 2) 1 ≡ bit set 0
 first-bit set = ap (λ (n : ℕ). eqb n 1) (let z : set % 2 ≡ (set / 1) % 2 = omega arith in z)
 
-pub second-row : (set y : ℕ) → set ≤ 3 → cond (eqb (set / 2) 1) 0 (0 + y) ≡ cond (bit set 1) 0 y
-second-row set y h = ap (λ (n : ℕ). cond (eqb n 1) 0 (0 + y)) (let z : set / 2 ≡ (set / 2) % 2 = omega arith in z) ∙ ap (λ (n : ℕ). cond (bit set 1) 0 n) (let z : 0 + y ≡ y = omega arith in z)
+pub second-row : (set y : ℕ) → set ≤ 3 → cond (eqb (set / 2) 1) 0 y ≡ cond (bit set 1) 0 y
+second-row set y h = ap (λ (n : ℕ). cond (eqb n 1) 0 y) (let z : set / 2 ≡ (set / 2) % 2 = omega arith in z)
+
+-- The columns and the rows of a transition's box end in the table.
+pub columns-end : {s : Bytes} {v : Transition} → Fits s v → past (v .high1) ≤ width
+columns-end {s} {v} f = past-ordered (v .low1) (v .high1) (f .first) .1
+
+pub rows-end : {s : Bytes} {v : Transition} → Fits s v → past (v .high2) ≤ width
+rows-end {s} {v} f = past-ordered (v .low2) (v .high2) (f .second) .1
 
 pub row-of : {other : ℕ → ℕ} {to x end lo hi : ℕ} {table next : List ℕ} → x ≡ lo → end ≡ hi → RowLowered other to x end table next → RowLowered other to lo hi table next
 row-of {other} {to} {x} {end} {lo} {hi} {table} {next} e f r = subst (λ (n : ℕ). RowLowered other to lo n table next) f (subst (λ (n : ℕ). RowLowered other to n end table next) e r)

@@ -1,9 +1,9 @@
--- Layers: the costs of all configurations with the same actions left, as tables of eight locations each.
+-- Layers: the costs of all configurations with the same actions left, as tables of half the locations each.
 use mathlib.Core.Path.{_≡_}
 use mathlib.Core.Bool.{true, false, cond}
 use mathlib.Core.List.{List, []}
 use mathlib.Core.Logic.{_⊎_, _↔_}
-use Prim.Native.Nat.{ℕ, suc, _+_, _-_, _*_, _≤_, _<_, min}
+use Prim.Native.Nat.{ℕ, suc, _+_, _-_, _*_, _/_, _≤_, _<_, min}
 use lib.ListN.{length, getD, drop}
 use Rattle.enforcement.specs.Limits.{maxCount}
 use Rattle.enforcement.specs.Automaton.{Bytes, Transition, bit, locations, transitions, enabled}
@@ -15,7 +15,7 @@ use Rattle.retimer.specs.Costs.{never, costAt, configuration, placeOf, G
 
 -- The locations of a table.
 abbrev pub half : ℕ
-half = 8
+half = maxCount / 2
 
 -- The place of a location of a table with its readings.
 abbrev pub cellOf : ℕ → ℕ → ℕ → ℕ

@@ -3,10 +3,11 @@ use mathlib.Core.Path.{_≡_}
 use mathlib.Core.Bool.{cond}
 use mathlib.Core.List.{List, [], _∷_}
 use Prim.Native.Nat.{ℕ, _+_, _≤_, _<_, min}
+use lib.Dec.{eqb}
 use lib.ListN.{length, getD}
 use Rattle.enforcement.specs.Automaton.{Bytes, bit, locations, clocks}
 use Rattle.enforcement.specs.TimedWord.{Configuration}
-use Rattle.enforcement.specs.Model.{top}
+use Rattle.enforcement.specs.Model.{top, width}
 
 -- Two saturated readings.
 pub record Readings (r : List ℕ) : Type 0 where
@@ -21,6 +22,10 @@ waited n r = min (getD r 0 0 + n) top ∷ min (getD r 1 0 + n) top ∷ []
 -- The readings after the clocks of a set are reset.
 unfoldable pub resetBy : ℕ → List ℕ → List ℕ
 resetBy set r = cond (bit set 0) 0 (getD r 0 0) ∷ cond (bit set 1) 0 (getD r 1 0) ∷ []
+
+-- One past the largest reading that a high bound allows; the high 255 is no bound.
+abbrev pub past : ℕ → ℕ
+past high = cond (eqb high 255) width (high + 1)
 
 -- A location with readings.
 abbrev pub located : ℕ → List ℕ → Configuration

@@ -98,10 +98,6 @@ Kept src cols x i = Member src x i × In x cols
 abbrev pub Reset : List ℕ → ℕ → ℕ → ℕ → Type 0
 Reset src cols x i = (x ≡ 0) × ((z : ℕ) × Member src z i × In z cols)
 
--- One past the largest reading that a high bound allows; the high 255 is no bound.
-abbrev pub past : ℕ → ℕ
-past high = cond (eqb high 255) width (high + 1)
-
 -- v has the readings of the first clock that a transition allows.
 pub record Columns (u : Transition) (v : ℕ) : Type 0 where
   pub small : v < 2 ^ width

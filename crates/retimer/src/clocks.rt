@@ -1,4 +1,5 @@
-// Readings of the two clocks, saturated just above the largest bound; the bound test.
+// Readings of the two clocks, saturated just above the largest bound; the bound test, and where a bound ends.
+use crate::bytes;
 use crate::limits::Monitor;
 ghost use mathlib.Core.Path.{_≡_};
 ghost use mathlib.Core.Bool.{cond};
@@ -6,7 +7,7 @@ ghost use Prim.Native.Nat.{_+_, _≤_, min};
 ghost use lib.Dec.{eqb};
 ghost use Rattle.enforcement.specs.Automaton.{within};
 ghost use Rattle.enforcement.specs.Model.{top};
-ghost use Rattle.retimer.specs.Readings.{Readings, waited, resetBy};
+ghost use Rattle.retimer.specs.Readings.{Readings, waited, resetBy, past};
 
 // A reading n ticks later.
 pub fn later(x: u8, n: u32) -> u8
@@ -59,4 +60,14 @@ pub fn within(low: u8, high: u8, x: u8) -> bool
         return false;
     }
     x <= high
+}
+
+// One past the largest reading that a high bound allows.
+pub fn past(high: u8) -> usize
+    ensures { λ r. ⌜ r ≡ past high ⌝ }
+{
+    if high == 255 {
+        return Monitor::WIDTH;
+    }
+    bytes::wide(high) + 1
 }

@@ -27,7 +27,7 @@ struct Front {
 }
 
 // The memo's place for the action k next, a location, and the reading that is kept.
-fn place(k: usize, l: u8, z: u8) -> usize
+pub fn place(k: usize, l: u8, z: u8) -> usize
     requires { ⌜ (1 ≤ k) × ((k ≤ maxCount) × ((l < maxCount) × (z ≤ top))) ⌝ }
     ensures { λ i. ⌜ i ≡ placeOf k l z ⌝ }
 {

@@ -2,16 +2,13 @@
 use crate::outlook;
 use crate::reach;
 ghost use mathlib.Core.Path.{_≡_};
-ghost use Prim.Native.Nat.{_≤_};
-ghost use lib.ListN.{length};
-ghost use Rattle.enforcement.specs.Limits.{maxCount};
 ghost use Rattle.enforcement.specs.Monitor.{isLit};
 ghost use Rattle.retimer.specs.Readings.{located};
 ghost use Rattle.retimer.specs.Optimum.{modelOf, LampAsked};
 
 // Whether the lamp is lit, with these actions pending.
 pub fn is_lit<'a>(s: &'a [u8], live: &'a [u8], cs: &'a [u8], l: u8, r: [u8; 2]) -> bool
-    requires { ⌜ (LampAsked (now s) (now live) l r) × (length (now cs) ≤ maxCount) ⌝ }
+    requires { ⌜ LampAsked (now s) (now live) l r ⌝ }
     ensures { λ b. ⌜ b ≡ isLit (modelOf (now (s .entry))) (located l r) (now (cs .entry)) ⌝ }
 {
     if cs.len() == 0 {

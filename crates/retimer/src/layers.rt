@@ -1,8 +1,8 @@
 // The costs of all configurations before each action of a list but the first, from the last action back; those right after a reset are noted in the memos.
 use crate::bytes;
+use crate::clocks;
 use crate::costs;
 use crate::limits::Monitor;
-use crate::sets::bounds;
 ghost use mathlib.Core.Path.{_≡_};
 ghost use mathlib.Core.Bool.{cond};
 ghost use mathlib.Core.List.{[]};
@@ -20,6 +20,14 @@ const HALF: usize = Monitor::COUNT / 2;
 const AREA: usize = Monitor::WIDTH * Monitor::WIDTH;
 
 const SIZE: usize = HALF * AREA;
+
+// The place of a location of a table with its readings.
+fn cell(m: usize, x: usize, y: usize) -> usize
+    requires { ⌜ (m < half) × ((x ≤ top) × (y ≤ top)) ⌝ }
+    ensures { λ i. ⌜ i ≡ cellOf m x y ⌝ }
+{
+    (m * Monitor::WIDTH + y) * Monitor::WIDTH + x
+}
 
 // The lesser of a cost and the one at a place, there.
 fn lower(table: &mut [u16], i: usize, v: u16)
@@ -63,7 +71,7 @@ fn tick_at(table: &mut [u16], m: usize, y: usize)
     requires { ⌜ (Ready m (now table)) × (y ≤ top) ⌝ }
     ensures { λ _. ⌜ RowTicked (cellOf m 0 y) (cellOf m 0 (tick y)) (now (table .entry)) (now (table .exit)) ⌝ }
 {
-    let here = (m * Monitor::WIDTH + y) * Monitor::WIDTH;
+    let here = cell(m, 0, y);
     if y + 1 < Monitor::WIDTH {
         tick_row(table, here);
         return;
@@ -83,12 +91,11 @@ fn ticks(table: &mut [u16], m: usize)
     }
 }
 
-// The place of a row's column i, or of its first column.
-fn column(spread: bool, from: usize, i: usize) -> usize
-    requires { ⌜ from + i < half * (width * width) ⌝ }
-    ensures { λ v. ⌜ (v ≡ cond spread from (from + i)) × (v ≤ from + i) ⌝ }
+// The row to which a transition leads from the row y: the first one where it resets the second clock.
+fn row_after(reset: bool, y: usize) -> usize
+    ensures { λ v. ⌜ (v ≡ cond reset 0 y) × (v ≤ y) ⌝ }
 {
-    if spread { from } else { from + i }
+    if reset { 0 } else { y }
 }
 
 // The columns x up to end of one row: the lesser of each cost and of v.
@@ -142,17 +149,17 @@ fn lower_box(s: &[u8], p: usize, other: &[u16], t: usize, table: &mut [u16], m: 
 {
     let set = s[p + 2];
     let x = bytes::wide(s[p + 3]);
-    let end = bounds::past(s[p + 4]);
-    let last = bounds::past(s[p + 6]);
+    let end = clocks::past(s[p + 4]);
+    let last = clocks::past(s[p + 6]);
     let mut y = bytes::wide(s[p + 5]);
     while y < last {
-        let row = column(set / 2 == 1, 0, y);
+        let row = row_after(set / 2 == 1, y);
         lower_row(
             other,
-            (t * Monitor::WIDTH + row) * Monitor::WIDTH,
+            cell(t, 0, row),
             set % 2 == 1,
             table,
-            (m * Monitor::WIDTH + y) * Monitor::WIDTH,
+            cell(m, 0, y),
             x,
             end,
         );
@@ -190,7 +197,7 @@ fn clear(table: &mut [u16], m: usize, c: u16)
     requires { ⌜ (Ready m (now table)) × (c ≤ never) ⌝ }
     ensures { λ _. ⌜ Cleared m c (now (table .entry)) (now (table .exit)) ⌝ }
 {
-    let mut i = m * AREA;
+    let mut i = cell(m, 0, 0);
     let end = i + AREA;
     while i < end {
         table[i] = c;
@@ -240,11 +247,13 @@ fn lay_and_note(
     ensures { λ _. ⌜ (LocationLaid (now (s .entry)) (drop k (now (cs .entry))) l m (now (table .entry)) (now (table .exit))) × (Noting (now (s .entry)) (now (cs .entry)) k l (now (first .entry)) (now (second .entry)) (now (first .exit)) (now (second .exit))) ⌝ }
 {
     lay(s, cs, k, l, low, high, table, m);
-    let base = ((k - 1) * Monitor::COUNT + l) * Monitor::WIDTH;
+    let base = costs::place(k, l as u8, 0);
     let mut z = 0;
     while z < Monitor::WIDTH {
-        first[base + z] = table[(m * Monitor::WIDTH + z) * Monitor::WIDTH] + 1;
-        second[base + z] = table[m * AREA + z] + 1;
+        let column = cell(m, 0, z);
+        let row = cell(m, z, 0);
+        first[base + z] = table[column] + 1;
+        second[base + z] = table[row] + 1;
         z += 1;
     }
 }

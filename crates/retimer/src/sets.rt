@@ -5,7 +5,7 @@ use crate::limits::Monitor;
 mod row;
 
 // The readings and rows that a transition allows.
-pub mod bounds;
+mod bounds;
 
 // The rows of a location: waiting, and the parts of a transition.
 mod rows;

@@ -15,7 +15,8 @@ use Rattle.enforcement.specs.Automaton.{Bytes, Transition, bit, within}
 use Rattle.enforcement.specs.Loading.{Fits}
 use Rattle.enforcement.specs.Model.{top, width}
 use Rattle.retimer.specs.Row.{Spread}
-use Rattle.retimer.specs.Sets.{past, Columns}
+use Rattle.retimer.specs.Readings.{past}
+use Rattle.retimer.specs.Sets.{Columns}
 use Rattle.retimer.specs.Leading.{allRows, member, slack, keptFirst, keptSecond, leads, Leading, RowAdded, Others, TransitionAdded}
 use Rattle.enforcement.proofs.Bits.{bit-or, bit-and, bit-lowest}
 use Rattle.retimer.proofs.sets.Bounding.{within-above, within-below, within-inside, saturated-in, saturated-out, columns-bit}

@@ -13,7 +13,8 @@ use Rattle.enforcement.specs.Loading.{Bounds, Fits}
 use Rattle.enforcement.specs.Model.{top, width}
 use Rattle.enforcement.proofs.Tests.{Tests, leb-tests, eqb-tests, both-tests, either-tests, test-true}
 use Rattle.retimer.specs.Row.{Interval}
-use Rattle.retimer.specs.Sets.{second, height, past, Columns}
+use Rattle.retimer.specs.Readings.{past}
+use Rattle.retimer.specs.Sets.{second, height, Columns}
 
 within-tests : (low high x : ℕ) → Tests (within low high x) ((low ≤ x) × ((high ≡ 255) ⊎ (x ≤ high)))
 within-tests low high x = both-tests (leb-tests low x) (either-tests (eqb-tests high 255) (leb-tests x high))

@@ -1,5 +1,6 @@
 // The rows of a location, and the readings and rows that a transition allows.
 use crate::bytes;
+use crate::clocks;
 use crate::limits::Monitor;
 use crate::sets::row;
 ghost use mathlib.Core.Path.{_≡_};
@@ -9,7 +10,8 @@ ghost use lib.Dec.{eqb};
 ghost use lib.ListN.{length};
 ghost use Rattle.enforcement.specs.Automaton.{byte, transitionAt};
 ghost use Rattle.enforcement.specs.Loading.{Fits};
-ghost use Rattle.retimer.specs.Sets.{height, past, Columns};
+ghost use Rattle.retimer.specs.Readings.{past};
+ghost use Rattle.retimer.specs.Sets.{height, Columns};
 
 // How many rows a location has.
 pub fn height(s: &[u8]) -> usize
@@ -22,22 +24,12 @@ pub fn height(s: &[u8]) -> usize
     Monitor::WIDTH
 }
 
-// One past the largest reading that a high bound allows.
-pub fn past(high: u8) -> usize
-    ensures { λ r. ⌜ r ≡ past high ⌝ }
-{
-    if high == 255 {
-        return Monitor::WIDTH;
-    }
-    bytes::wide(high) + 1
-}
-
 // The readings of the first clock that the transition at p allows.
 pub fn columns(s: &[u8], p: usize) -> u64
     requires { ⌜ (p + 7 ≤ length (now s)) × (Fits (now s) (transitionAt (now s) p)) ⌝ }
     ensures { λ v. ⌜ Columns (transitionAt (now (s .entry)) p) v ⌝ }
 {
-    row::interval(bytes::wide(s[p + 3]), past(s[p + 4]))
+    row::interval(bytes::wide(s[p + 3]), clocks::past(s[p + 4]))
 }
 
 // The first of a location's rows that the transition at p allows: there is a row for each second reading, or one alone, with one clock, and it is allowed.
@@ -59,5 +51,5 @@ pub fn past_row(s: &[u8], p: usize, h: usize) -> usize
     if h == 1 {
         return 1;
     }
-    past(s[p + 6])
+    clocks::past(s[p + 6])
 }

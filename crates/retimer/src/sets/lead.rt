@@ -1,5 +1,6 @@
 // The configurations from which a transition or a wait leads into a set.
 use crate::bytes;
+use crate::clocks;
 use crate::limits::Monitor;
 use crate::sets::bounds;
 use crate::sets::row;
@@ -77,7 +78,7 @@ pub fn add_transition(s: &[u8], rows: &mut [u64], l: usize, p: usize, from: usiz
     let target = bytes::wide(s[p + 1]);
     let resets = s[p + 2];
     let least = larger(from, bytes::wide(s[p + 5]));
-    let mut y = bounds::past(s[p + 6]);
+    let mut y = clocks::past(s[p + 6]);
     let mut changed = false;
     while least < y {
         y -= 1;

@@ -1,6 +1,5 @@
 -- `lamp::lit` meets its contract: the tests give what the lamp asks.
 -- Assumes nothing.
-use native.Mathlib.Omega.{arith}
 use borrow.Author.Tests.{not-false}
 use borrow.Author.Needs.{needs}
 use Rattle.layers.proofs.lamp.lit.Statement.{statement}
@@ -12,11 +11,8 @@ stands-requires c κs = search needs
 returns : tie.Need-returns
 returns c = search needs
 
-returns-2 : tie.Need-returns-2
-returns-2 c = search needs
-
 live-table-requires : tie.Need-live-table-requires
-live-table-requires c κs = c .before .before .stands .ensures (not-false (c .before .before .stands .result) (c .before .if1 .left)) .0
+live-table-requires c κs = c .before .stands .ensures (not-false (c .before .stands .result) (c .if1 .left)) .0
 
 slice-aggregate-word : tie.Need-slice-aggregate-word
 slice-aggregate-word c = search needs
@@ -31,13 +27,16 @@ slice-aggregate-is-lit : tie.Need-slice-aggregate-is-lit
 slice-aggregate-is-lit c = search needs
 
 is-lit-requires : tie.Need-is-lit-requires
-is-lit-requires c κs = (record { loads = c .before .before .before .before .before .before .before .before .stands .ensures (not-false (c .before .before .before .before .before .before .before .before .stands .result) (c .before .before .before .before .before .before .before .if1 .left)) .0; table = c .before .before .before .before .before .live-table .ensures; standing = c .before .before .before .before .before .before .before .before .stands .ensures (not-false (c .before .before .before .before .before .before .before .before .stands .result) (c .before .before .before .before .before .before .before .if1 .left)) .1 }, omega arith)
+is-lit-requires c κs =
+    let a = c .before .before .before .before .before .before .before in
+    let h = a .stands .ensures (not-false (a .stands .result) (c .before .before .before .before .before .before .if1 .left)) in
+    record { loads = h .0; table = c .before .before .before .before .before .live-table .ensures; standing = h .1 }
 
 truth-requires : tie.Need-truth-requires
 truth-requires c κs = search needs
 
-returns-3 : tie.Need-returns-3
-returns-3 c = search needs
+returns-2 : tie.Need-returns-2
+returns-2 c = search needs
 
 pub lit-spec : {M : Type 1} → statement M
 lit-spec =
@@ -45,7 +44,6 @@ lit-spec =
     (tie.spec
     stands-requires
     returns
-    returns-2
     live-table-requires
     slice-aggregate-word
     word-requires
@@ -53,4 +51,4 @@ lit-spec =
     slice-aggregate-is-lit
     is-lit-requires
     truth-requires
-    returns-3)
+    returns-2)

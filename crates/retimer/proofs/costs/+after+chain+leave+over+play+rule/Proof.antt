@@ -121,95 +121,86 @@ chain-calls t = (wide-reads.Asked, wide-reads.Learnt, with-reads.Asked, with-rea
 abbrev after-calls : ℕ → after-lts.Claims
 after-calls t = (place-reads.Asked, place-reads.Learnt, chain-below t, chain.Post)
 
--- src/costs.rt:128:9
 after-place-requires : (t : ℕ) → after-lts.Need-place-requires (after-calls t) (after-at t) after.Post
 after-place-requires t c κs = place-asked (c .before .before .before .before .pre .1)
 
--- src/costs.rt:130:21
 after-mul-known : (t : ℕ) → after-lts.Need-mul-known (after-calls t) (after-at t) after.Post
 after-mul-known t c = let q = place-asked (c .before .before .before .before .before .before .pre .1) in omega (arith, c .before .place .ensures)
 
--- src/costs.rt:130:21
 after-slice-read-known : (t : ℕ) → after-lts.Need-slice-read-known (after-calls t) (after-at t) after.Post
 after-slice-read-known t c = place-inside (c .before .before .before .before .before .before .before .pre .1) (c .before .before .before .before .before .before .before .pre .1 .ground .after-second) (c .before .before .place .ensures)
 
--- src/costs.rt:132:20
 after-sub-result : (t : ℕ) → after-lts.Need-sub-result (after-calls t) (after-at t) after.Post
 after-sub-result t c = omega (arith, c .if2 .taken)
 
--- src/costs.rt:132:13
 after-returns : (t : ℕ) → after-lts.Need-returns (after-calls t) (after-at t) after.Post
-after-returns t c = known-cost (c .before .before .before .before .before .before .before .before .pre .1) (c .before .before .if1 .taken) (c .before .before .before .before .before .before .before .before .pre .1 .ground .after-second) (c .before .before .before .place .ensures) (c .if2 .taken)
+after-returns t c =
+    let a = c .before .before .before .before .before .before .before .before in
+    known-cost (a .pre .1) (c .before .before .if1 .taken) (a .pre .1 .ground .after-second) (c .before .before .before .place .ensures) (c .if2 .taken)
 
--- src/costs.rt:134:13
 after-chain-requires : (t : ℕ) → after-lts.Need-chain-requires (after-calls t) (after-at t) after.Post
-after-chain-requires t c κs = (omega (arith, c .before .before .before .before .before .before .before .before .before .before .pre .0), (searching-second (c .before .before .before .before .before .before .before .before .before .before .pre .1), c .before .before .before .before .before .before .before .before .before .before .pre .1 .in-sheet))
+after-chain-requires t c κs =
+    let a = c .before .before .before .before .before .before .before .before .before .before in
+    (omega (arith, a .pre .0), (searching-second (a .pre .1), a .pre .1 .in-sheet))
 
--- src/costs.rt:135:21
 after-add-second : (t : ℕ) → after-lts.Need-add-second (after-calls t) (after-at t) after.Post
-after-add-second t c = let e = c .before .before .before .before .chain .ensures in omega (arith, e .value-is, cost-most (c .before .before .before .before .before .before .before .before .before .before .before .before .before .before .before .args .s .now) (c .before .before .before .before .before .before .before .before .before .before .before .before .before .before .before .args .cs .now) (c .before .before .before .before .before .before .before .before .before .before .before .before .before .before .before .args .k) (configuration (c .before .before .before .before .before .before .before .before .before .before .before .before .before .before .before .args .l) (c .before .before .before .before .before .before .before .before .before .before .before .before .before .before .before .args .z) 0) (e .ground .few))
+after-add-second t c =
+    let a = c .before .before .before .before .before .before .before .before .before .before .before .before .before .before .before in
+    let e = c .before .before .before .before .chain .ensures in
+    omega (arith, e .value-is, cost-most (a .args .s .now) (a .args .cs .now) (a .args .k) (configuration (a .args .l) (a .args .z) 0) (e .ground .few))
 
--- src/costs.rt:135:9
 after-mul-second : (t : ℕ) → after-lts.Need-mul-second (after-calls t) (after-at t) after.Post
 after-mul-second t c = let q = place-asked (c .before .before .before .before .before .before .before .before .before .before .before .before .before .before .before .pre .1) in omega (arith, c .before .before .before .before .before .before .before .before .before .before .place .ensures)
 
--- src/costs.rt:135:9
 after-slice-write-second : (t : ℕ) → after-lts.Need-slice-write-second (after-calls t) (after-at t) after.Post
 after-slice-write-second t c = place-inside (c .before .before .before .before .before .before .before .before .before .before .before .before .before .before .before .pre .1) (c .before .before .before .before .chain .ensures .ground .after-second) (c .before .before .before .before .before .before .before .before .before .before .place .ensures)
 
--- src/costs.rt:136:9
 after-same-length : (t : ℕ) → after-lts.Need-same-length (after-calls t) (after-at t) after.Post
 after-same-length t c = search needs
 
--- src/costs.rt:136:9
 after-same-length-2 : (t : ℕ) → after-lts.Need-same-length-2 (after-calls t) (after-at t) after.Post
 after-same-length-2 t c = search needs
 
--- src/costs.rt:136:9
 after-returns-2 : (t : ℕ) → after-lts.Need-returns-2 (after-calls t) (after-at t) after.Post
 after-returns-2 t c = noted-second (c .before .before .before .before .before .before .before .before .before .before .before .before .before .before .before .pre .1) (c .before .before .before .before .before .before .before .before .before .if1 .taken) (c .before .before .before .before .before .before .before .before .before .before .place .ensures) (c .before .before .before .before .chain .ensures)
 
--- src/costs.rt:138:17
 after-mul-known-2 : (t : ℕ) → after-lts.Need-mul-known-2 (after-calls t) (after-at t) after.Post
 after-mul-known-2 t c = let q = place-asked (c .before .before .before .before .before .before .pre .1) in omega (arith, c .before .place .ensures)
 
--- src/costs.rt:138:17
 after-slice-read-known-2 : (t : ℕ) → after-lts.Need-slice-read-known-2 (after-calls t) (after-at t) after.Post
 after-slice-read-known-2 t c = place-inside (c .before .before .before .before .before .before .before .pre .1) (c .before .before .before .before .before .before .before .pre .1 .ground .after-first) (c .before .before .place .ensures)
 
--- src/costs.rt:140:16
 after-sub-result-2 : (t : ℕ) → after-lts.Need-sub-result-2 (after-calls t) (after-at t) after.Post
 after-sub-result-2 t c = omega (arith, c .if3 .taken)
 
--- src/costs.rt:140:9
 after-returns-3 : (t : ℕ) → after-lts.Need-returns-3 (after-calls t) (after-at t) after.Post
-after-returns-3 t c = known-cost (c .before .before .before .before .before .before .before .before .pre .1) (c .before .before .if1 .left) (c .before .before .before .before .before .before .before .before .pre .1 .ground .after-first) (c .before .before .before .place .ensures) (c .if3 .taken)
+after-returns-3 t c =
+    let a = c .before .before .before .before .before .before .before .before in
+    known-cost (a .pre .1) (c .before .before .if1 .left) (a .pre .1 .ground .after-first) (c .before .before .before .place .ensures) (c .if3 .taken)
 
--- src/costs.rt:142:9
 after-chain-requires-2 : (t : ℕ) → after-lts.Need-chain-requires-2 (after-calls t) (after-at t) after.Post
-after-chain-requires-2 t c κs = (omega (arith, c .before .before .before .before .before .before .before .before .before .before .pre .0), (searching-first (c .before .before .before .before .before .before .before .before .before .before .pre .1), c .before .before .before .before .before .before .before .before .before .before .pre .1 .in-sheet))
+after-chain-requires-2 t c κs =
+    let a = c .before .before .before .before .before .before .before .before .before .before in
+    (omega (arith, a .pre .0), (searching-first (a .pre .1), a .pre .1 .in-sheet))
 
--- src/costs.rt:143:16
 after-add-first : (t : ℕ) → after-lts.Need-add-first (after-calls t) (after-at t) after.Post
-after-add-first t c = let e = c .before .before .before .before .chain2 .ensures in omega (arith, e .value-is, cost-most (c .before .before .before .before .before .before .before .before .before .before .before .before .before .before .before .args .s .now) (c .before .before .before .before .before .before .before .before .before .before .before .before .before .before .before .args .cs .now) (c .before .before .before .before .before .before .before .before .before .before .before .before .before .before .before .args .k) (configuration (c .before .before .before .before .before .before .before .before .before .before .before .before .before .before .before .args .l) 0 (c .before .before .before .before .before .before .before .before .before .before .before .before .before .before .before .args .z)) (e .ground .few))
+after-add-first t c =
+    let a = c .before .before .before .before .before .before .before .before .before .before .before .before .before .before .before in
+    let e = c .before .before .before .before .chain2 .ensures in
+    omega (arith, e .value-is, cost-most (a .args .s .now) (a .args .cs .now) (a .args .k) (configuration (a .args .l) 0 (a .args .z)) (e .ground .few))
 
--- src/costs.rt:143:5
 after-mul-first : (t : ℕ) → after-lts.Need-mul-first (after-calls t) (after-at t) after.Post
 after-mul-first t c = let q = place-asked (c .before .before .before .before .before .before .before .before .before .before .before .before .before .before .before .pre .1) in omega (arith, c .before .before .before .before .before .before .before .before .before .before .place .ensures)
 
--- src/costs.rt:143:5
 after-slice-write-first : (t : ℕ) → after-lts.Need-slice-write-first (after-calls t) (after-at t) after.Post
 after-slice-write-first t c = place-inside (c .before .before .before .before .before .before .before .before .before .before .before .before .before .before .before .pre .1) (c .before .before .before .before .chain2 .ensures .ground .after-first) (c .before .before .before .before .before .before .before .before .before .before .place .ensures)
 
--- src/costs.rt:115:1
 after-same-length-3 : (t : ℕ) → after-lts.Need-same-length-3 (after-calls t) (after-at t) after.Post
 after-same-length-3 t c = search needs
 
--- src/costs.rt:115:1
 after-same-length-4 : (t : ℕ) → after-lts.Need-same-length-4 (after-calls t) (after-at t) after.Post
 after-same-length-4 t c = search needs
 
--- src/costs.rt:115:1
 after-returns-4 : (t : ℕ) → after-lts.Need-returns-4 (after-calls t) (after-at t) after.Post
 after-returns-4 t c = noted-first (c .before .before .before .before .before .before .before .before .before .before .before .before .before .before .before .pre .1) (c .before .before .before .before .before .before .before .before .before .if1 .left) (c .before .before .before .before .before .before .before .before .before .before .place .ensures) (c .before .before .before .before .chain2 .ensures)
 
@@ -219,51 +210,41 @@ chain-Inv-loop s cs k l x y first₀ second₀ here₀ front₀ i₀ first secon
 abbrev chain-μ-loop : chain-lts.MeasureT-loop
 chain-μ-loop s cs k l x y first₀ second₀ here₀ front₀ i₀ first second here front i = length cs - i
 
--- src/costs.rt:163:36
 chain-wide-requires : (t : ℕ) → chain-lts.Need-wide-requires (chain-calls t) (chain-at t) chain.Post chain-Inv-loop chain-μ-loop
 chain-wide-requires t c κs = search needs
 
--- src/costs.rt:163:17
 chain-with-requires : (t : ℕ) → chain-lts.Need-with-requires (chain-calls t) (chain-at t) chain.Post chain-Inv-loop chain-μ-loop
 chain-with-requires t c κs = omega (arith, c .wide .ensures .0, c .before .before .before .before .before .pre .1 .1, header (c .before .before .before .before .before .args .s .now) (c .before .before .before .before .before .pre .1 .0 .ground .loads) .locations-fit)
 
--- src/costs.rt:167:5
 chain-loop-holds : (t : ℕ) → chain-lts.Need-loop-holds (chain-calls t) (chain-at t) chain.Post chain-Inv-loop chain-μ-loop
 chain-loop-holds t c = chain-begun (c .before .before .before .before .before .before .pre .1 .0) (c .before .before .before .before .before .before .pre .1 .1) (c .before .wide .ensures .0) (c .with .ensures)
 
--- src/costs.rt:169:38
 chain-slice-aggregate-play : (t : ℕ) → chain-lts.Need-slice-aggregate-play (chain-calls t) (chain-at t) chain.Post chain-Inv-loop chain-μ-loop
 chain-slice-aggregate-play t c = search needs
 
--- src/costs.rt:169:52
 chain-slice-aggregate-play-2 : (t : ℕ) → chain-lts.Need-slice-aggregate-play-2 (chain-calls t) (chain-at t) chain.Post chain-Inv-loop chain-μ-loop
 chain-slice-aggregate-play-2 t c = search needs
 
--- src/costs.rt:169:9
 chain-play-requires : (t : ℕ) → chain-lts.Need-play-requires (chain-calls t) (chain-at t) chain.Post chain-Inv-loop chain-μ-loop
-chain-play-requires t c κs = (omega (arith, c .before .before .before .before .before .before .before .before .before .before .before .before .before .pre .0, c .before .before .before .before .before .before .loop .inv .from, c .before .before .before .before .before .before .loop .inv .more (c .before .before .before .before .if1 .taken)), (chain-searching (c .before .before .before .before .before .before .before .before .before .before .before .before .before .pre .1 .0) (c .before .before .before .before .before .before .loop .inv) (c .before .before .before .before .if1 .taken), (c .before .before .before .before .before .before .loop .inv .chain, refl)))
+chain-play-requires t c κs =
+    let a = c .before .before .before .before .before .before .before .before .before .before .before .before .before in
+    (omega (arith, a .pre .0, c .before .before .before .before .before .before .loop .inv .from, c .before .before .before .before .before .before .loop .inv .more (c .before .before .before .before .if1 .taken)), (chain-searching (a .pre .1 .0) (c .before .before .before .before .before .before .loop .inv) (c .before .before .before .before .if1 .taken), (c .before .before .before .before .before .before .loop .inv .chain, refl)))
 
--- src/costs.rt:171:9
 chain-add-i : (t : ℕ) → chain-lts.Need-add-i (chain-calls t) (chain-at t) chain.Post chain-Inv-loop chain-μ-loop
 chain-add-i t c = omega (arith, c .before .before .before .before .before .before .before .before .before .before .before .before .loop .inv .more (c .before .before .before .before .before .before .before .before .before .before .if1 .taken))
 
--- src/costs.rt:167:5
 chain-loop-less : (t : ℕ) → chain-lts.Need-loop-less (chain-calls t) (chain-at t) chain.Post chain-Inv-loop chain-μ-loop
 chain-loop-less t c = omega (arith, c .before .before .before .before .before .before .before .before .before .before .before .before .loop .inv .more (c .before .before .before .before .before .before .before .before .before .before .if1 .taken))
 
--- src/costs.rt:167:5
 chain-loop-again : (t : ℕ) → chain-lts.Need-loop-again (chain-calls t) (chain-at t) chain.Post chain-Inv-loop chain-μ-loop
 chain-loop-again t c = let f = c .before .before .before .before .before .play in chain-next (c .before .before .before .before .before .before .before .before .before .before .before .before .before .before .before .before .before .before .before .pre .1 .0) (c .before .before .before .before .before .before .before .before .before .before .before .before .loop .inv) (c .before .before .before .before .before .before .before .before .before .before .if1 .taken) (f .ensures) (f .kept .1 .1 .1 .1 .1 .1 .1 .1 .0) (f .kept .1 .1 .1 .1 .1 .1 .1 .1 .1 .0)
 
--- src/costs.rt:148:1
 chain-same-length : (t : ℕ) → chain-lts.Need-same-length (chain-calls t) (chain-at t) chain.Post chain-Inv-loop chain-μ-loop
 chain-same-length t c = search needs
 
--- src/costs.rt:148:1
 chain-same-length-2 : (t : ℕ) → chain-lts.Need-same-length-2 (chain-calls t) (chain-at t) chain.Post chain-Inv-loop chain-μ-loop
 chain-same-length-2 t c = search needs
 
--- src/costs.rt:148:1
 chain-returns : (t : ℕ) → chain-lts.Need-returns (chain-calls t) (chain-at t) chain.Post chain-Inv-loop chain-μ-loop
 chain-returns t c = chain-done (c .before .before .before .before .before .before .before .before .before .pre .1 .0) (c .before .before .loop .inv) (c .if1 .left)
 
@@ -273,67 +254,57 @@ leave-Inv-loop s cs k l e x y next₀ first₀ second₀ pair p₀ end found₀ 
 abbrev leave-μ-loop : leave-lts.MeasureT-loop
 leave-μ-loop s cs k l e x y next₀ first₀ second₀ pair p₀ end found₀ next first second p found = end - p
 
--- src/costs.rt:223:24
 leave-wide-requires : (t : ℕ) → leave-lts.Need-wide-requires (leave-calls t) (leave-at t) leave.Post leave-Inv-loop leave-μ-loop
 leave-wide-requires t c κs = search needs
 
--- src/costs.rt:223:20
 leave-mul-pair : (t : ℕ) → leave-lts.Need-mul-pair (leave-calls t) (leave-at t) leave.Post leave-Inv-loop leave-μ-loop
 leave-mul-pair t c = omega (arith, c .wide .ensures)
 
--- src/costs.rt:223:16
 leave-add-pair : (t : ℕ) → leave-lts.Need-add-pair (leave-calls t) (leave-at t) leave.Post leave-Inv-loop leave-μ-loop
 leave-add-pair t c = omega (arith, c .wide .ensures)
 
--- src/costs.rt:224:9
 leave-word-at-requires : (t : ℕ) → leave-lts.Need-word-at-requires (leave-calls t) (leave-at t) leave.Post leave-Inv-loop leave-μ-loop
 leave-word-at-requires t c κs = let b = c .before .before .before .before .before .before .pre .1 in omega (arith, c .wide .ensures .0, b .1 .1, pairs-fit (c .before .before .before .before .before .before .args .s .now) (b .0 .ground .loads))
 
--- src/costs.rt:225:37
 leave-add-word-at : (t : ℕ) → leave-lts.Need-add-word-at (leave-calls t) (leave-at t) leave.Post leave-Inv-loop leave-μ-loop
 leave-add-word-at t c = omega (arith, c .before .wide .ensures)
 
--- src/costs.rt:225:19
 leave-word-at-requires-2 : (t : ℕ) → leave-lts.Need-word-at-requires-2 (leave-calls t) (leave-at t) leave.Post leave-Inv-loop leave-μ-loop
 leave-word-at-requires-2 t c κs = let b = c .before .before .before .before .before .before .before .pre .1 in omega (arith, c .before .wide .ensures .0, b .1 .1, pairs-fit (c .before .before .before .before .before .before .before .args .s .now) (b .0 .ground .loads))
 
--- src/costs.rt:225:15
 leave-add-end : (t : ℕ) → leave-lts.Need-add-end (leave-calls t) (leave-at t) leave.Post leave-Inv-loop leave-μ-loop
 leave-add-end t c = omega (arith, c .before .word-at .ensures .1, c .word-at2 .ensures .1)
 
--- src/costs.rt:227:5
 leave-loop-holds : (t : ℕ) → leave-lts.Need-loop-holds (leave-calls t) (leave-at t) leave.Post leave-Inv-loop leave-μ-loop
-leave-loop-holds t c = leave-begun (c .before .before .before .before .before .before .before .before .pre .1 .0) (c .before .before .before .before .before .before .before .before .pre .1 .1 .0) (c .before .before .before .before .before .before .before .before .pre .1 .1 .1) (c .before .before .wide .ensures .0) (c .before .word-at .ensures .0) (c .word-at2 .ensures .0)
+leave-loop-holds t c =
+    let a = c .before .before .before .before .before .before .before .before in
+    leave-begun (a .pre .1 .0) (a .pre .1 .1 .0) (a .pre .1 .1 .1) (c .before .before .wide .ensures .0) (c .before .word-at .ensures .0) (c .word-at2 .ensures .0)
 
--- src/costs.rt:228:9
 leave-rule-requires : (t : ℕ) → leave-lts.Need-rule-requires (leave-calls t) (leave-at t) leave.Post leave-Inv-loop leave-μ-loop
-leave-rule-requires t c κs = let h = c .before .before .before .before .loop .inv in let a = c .before .before .before .before .before .before .before .before .before .before .before .before .before .pre .1 .0 in (omega (arith, c .before .before .before .before .before .before .before .before .before .before .before .before .before .pre .0), (leave-searching a h, (h .chain, (leave-inside a h (c .before .before .before .loop-test .taken), leave-fits a h (c .before .before .before .loop-test .taken)))))
+leave-rule-requires t c κs =
+    let b = c .before .before .before .before .before .before .before .before .before .before .before .before .before in
+    let h = c .before .before .before .before .loop .inv in
+    let a = b .pre .1 .0 in
+    (omega (arith, b .pre .0), (leave-searching a h, (h .chain, (leave-inside a h (c .before .before .before .loop-test .taken), leave-fits a h (c .before .before .before .loop-test .taken)))))
 
--- src/costs.rt:229:9
 leave-add-p : (t : ℕ) → leave-lts.Need-add-p (leave-calls t) (leave-at t) leave.Post leave-Inv-loop leave-μ-loop
 leave-add-p t c = omega (arith, leave-inside (c .before .before .before .before .before .before .before .before .before .before .before .before .before .before .before .before .before .before .before .before .pre .1 .0) (c .before .before .before .before .before .before .before .before .before .before .before .loop .inv) (c .before .before .before .before .before .before .before .before .before .before .loop-test .taken))
 
--- src/costs.rt:227:5
 leave-loop-less : (t : ℕ) → leave-lts.Need-loop-less (leave-calls t) (leave-at t) leave.Post leave-Inv-loop leave-μ-loop
 leave-loop-less t c = omega (arith, c .before .before .before .before .before .before .before .before .before .before .loop-test .taken)
 
--- src/costs.rt:227:5
 leave-loop-again : (t : ℕ) → leave-lts.Need-loop-again (leave-calls t) (leave-at t) leave.Post leave-Inv-loop leave-μ-loop
 leave-loop-again t c = let f = c .before .before .before .before .before .before .rule in leave-next (c .before .before .before .before .before .before .before .before .before .before .before .before .before .before .before .before .before .before .before .before .pre .1 .0) (c .before .before .before .before .before .before .before .before .before .before .before .loop .inv) (c .before .before .before .before .before .before .before .before .before .before .loop-test .taken) (f .ensures) (f .kept .1 .1 .1 .1 .1 .1 .1 .1 .0) (f .kept .1 .1 .1 .1 .1 .1 .1 .1 .1 .0) (f .kept .1 .1 .1 .1 .1 .1 .1 .1 .1 .1 .0)
 
--- src/costs.rt:207:1
 leave-same-length : (t : ℕ) → leave-lts.Need-same-length (leave-calls t) (leave-at t) leave.Post leave-Inv-loop leave-μ-loop
 leave-same-length t c = search needs
 
--- src/costs.rt:207:1
 leave-same-length-2 : (t : ℕ) → leave-lts.Need-same-length-2 (leave-calls t) (leave-at t) leave.Post leave-Inv-loop leave-μ-loop
 leave-same-length-2 t c = search needs
 
--- src/costs.rt:207:1
 leave-same-length-3 : (t : ℕ) → leave-lts.Need-same-length-3 (leave-calls t) (leave-at t) leave.Post leave-Inv-loop leave-μ-loop
 leave-same-length-3 t c = search needs
 
--- src/costs.rt:207:1
 leave-returns : (t : ℕ) → leave-lts.Need-returns (leave-calls t) (leave-at t) leave.Post leave-Inv-loop leave-μ-loop
 leave-returns t c = leave-done (c .before .before .before .before .before .before .before .before .before .before .pre .1 .0) (c .before .loop .inv) (c .loop-test .left)
 
@@ -343,71 +314,59 @@ over-Inv-loop s cs k t clock z n from best first₀ second₀ v₀ i₀ first se
 abbrev over-μ-loop : over-lts.MeasureT-loop
 over-μ-loop s cs k t clock z n from best first₀ second₀ v₀ i₀ first second v i = n - i
 
--- src/costs.rt:298:5
 over-loop-holds : (t : ℕ) → over-lts.Need-loop-holds (over-calls t) (over-at t) over.Post over-Inv-loop over-μ-loop
 over-loop-holds t c = over-begun (c .before .before .before .before .pre .1)
 
--- src/costs.rt:299:18
 over-add-u : (t : ℕ) → over-lts.Need-add-u (over-calls t) (over-at t) over.Post over-Inv-loop over-μ-loop
 over-add-u t c = omega (arith, c .loop-test .taken, c .before .before .before .before .before .before .pre .1 .readings-fit, c .before .before .before .before .before .before .pre .1 .from-fits)
 
--- src/costs.rt:299:17
 over-cast-u : (t : ℕ) → over-lts.Need-cast-u (over-calls t) (over-at t) over.Post over-Inv-loop over-μ-loop
 over-cast-u t c = omega (arith, c .loop-test .taken, c .before .before .before .before .before .before .pre .1 .readings-fit, c .before .before .before .before .before .before .pre .1 .from-fits)
 
--- src/costs.rt:301:13
 over-same-length : (t : ℕ) → over-lts.Need-same-length (over-calls t) (over-at t) over.Post over-Inv-loop over-μ-loop
 over-same-length t c = search needs
 
--- src/costs.rt:301:13
 over-same-length-2 : (t : ℕ) → over-lts.Need-same-length-2 (over-calls t) (over-at t) over.Post over-Inv-loop over-μ-loop
 over-same-length-2 t c = search needs
 
--- src/costs.rt:301:13
 over-returns : (t : ℕ) → over-lts.Need-returns (over-calls t) (over-at t) over.Post over-Inv-loop over-μ-loop
 over-returns t c = over-cut (c .before .before .before .before .before .before .before .pre .1) (c .before .before .loop .inv) (c .if1 .taken)
 
--- src/costs.rt:303:30
 over-add-after : (t : ℕ) → over-lts.Need-add-after (over-calls t) (over-at t) over.Post over-Inv-loop over-μ-loop
 over-add-after t c = omega (arith, c .before .before .before .before .before .before .before .pre .1 .more)
 
--- src/costs.rt:303:47
 over-add-after-2 : (t : ℕ) → over-lts.Need-add-after-2 (over-calls t) (over-at t) over.Post over-Inv-loop over-μ-loop
 over-add-after-2 t c = omega (arith, c .before .loop-test .taken, c .before .before .before .before .before .before .before .pre .1 .readings-fit)
 
--- src/costs.rt:303:17
 over-after-requires : (t : ℕ) → over-lts.Need-after-requires (over-calls t) (over-at t) over.Post over-Inv-loop over-μ-loop
-over-after-requires t c κs = (omega (arith, c .before .before .before .before .before .before .before .before .before .pre .0, c .before .before .before .before .before .before .before .before .before .pre .1 .more), over-asks (c .before .before .before .before .before .before .before .before .before .pre .1) (c .before .before .before .before .loop .inv) (c .before .before .before .loop-test .taken))
+over-after-requires t c κs =
+    let a = c .before .before .before .before .before .before .before .before .before in
+    (omega (arith, a .pre .0, a .pre .1 .more), over-asks (a .pre .1) (c .before .before .before .before .loop .inv) (c .before .before .before .loop-test .taken))
 
--- src/costs.rt:303:17
 over-add-c : (t : ℕ) → over-lts.Need-add-c (over-calls t) (over-at t) over.Post over-Inv-loop over-μ-loop
-over-add-c t c = let e = c .before .before .before .before .after .ensures in omega (arith, e .value-is, cost-most (c .before .before .before .before .before .before .before .before .before .before .before .before .before .before .args .s .now) (c .before .before .before .before .before .before .before .before .before .before .before .before .before .before .args .cs .now) (c .before .before .before .before .before .before .before .before .before .before .before .before .before .before .args .k + 1) (justReset (c .before .before .before .before .before .before .before .before .before .before .before .before .before .before .args .clock) (c .before .before .before .before .before .before .before .before .before .before .before .before .before .before .args .t) (c .before .before .before .before .before .before .before .before .before .before .before .before .before .before .args .z + c .before .before .before .before .before .before .before .before .before .loop .i)) (e .ground .few), c .before .before .before .before .before .before .before .before .loop-test .taken, c .before .before .before .before .before .before .before .before .before .before .before .before .before .before .pre .1 .readings-fit, c .before .before .before .before .before .before .before .before .before .before .before .before .before .before .pre .1 .from-fits)
+over-add-c t c =
+    let a = c .before .before .before .before .before .before .before .before .before .before .before .before .before .before in
+    let e = c .before .before .before .before .after .ensures in
+    omega (arith, e .value-is, cost-most (a .args .s .now) (a .args .cs .now) (a .args .k + 1) (justReset (a .args .clock) (a .args .t) (a .args .z + c .before .before .before .before .before .before .before .before .before .loop .i)) (e .ground .few), c .before .before .before .before .before .before .before .before .loop-test .taken, a .pre .1 .readings-fit, a .pre .1 .from-fits)
 
--- src/costs.rt:304:9
 over-better-requires : (t : ℕ) → over-lts.Need-better-requires (over-calls t) (over-at t) over.Post over-Inv-loop over-μ-loop
 over-better-requires t c κs = search needs
 
--- src/costs.rt:305:9
 over-add-i : (t : ℕ) → over-lts.Need-add-i (over-calls t) (over-at t) over.Post over-Inv-loop over-μ-loop
 over-add-i t c = omega (arith, c .before .before .before .before .before .before .before .before .before .loop-test .taken, c .before .before .before .before .before .before .before .before .before .before .before .before .before .before .before .pre .1 .readings-fit)
 
--- src/costs.rt:298:5
 over-loop-less : (t : ℕ) → over-lts.Need-loop-less (over-calls t) (over-at t) over.Post over-Inv-loop over-μ-loop
 over-loop-less t c = omega (arith, c .before .before .before .before .before .before .before .before .before .loop-test .taken)
 
--- src/costs.rt:298:5
 over-loop-again : (t : ℕ) → over-lts.Need-loop-again (over-calls t) (over-at t) over.Post over-Inv-loop over-μ-loop
 over-loop-again t c = let f = c .before .before .before .before .before .after in over-next (c .before .before .before .before .before .before .before .before .before .before .before .before .before .before .before .pre .1) (c .before .before .before .before .before .before .before .before .before .before .loop .inv) (c .before .before .before .before .before .before .before .before .before .loop-test .taken) (f .ensures) refl (c .better .ensures) (f .kept .1 .1 .1 .1 .1 .1 .0) (f .kept .1 .1 .1 .1 .1 .1 .1 .0)
 
--- src/costs.rt:280:1
 over-same-length-3 : (t : ℕ) → over-lts.Need-same-length-3 (over-calls t) (over-at t) over.Post over-Inv-loop over-μ-loop
 over-same-length-3 t c = search needs
 
--- src/costs.rt:280:1
 over-same-length-4 : (t : ℕ) → over-lts.Need-same-length-4 (over-calls t) (over-at t) over.Post over-Inv-loop over-μ-loop
 over-same-length-4 t c = search needs
 
--- src/costs.rt:280:1
 over-returns-2 : (t : ℕ) → over-lts.Need-returns-2 (over-calls t) (over-at t) over.Post over-Inv-loop over-μ-loop
 over-returns-2 t c = over-done (c .before .before .before .before .before .before .pre .1) (c .before .loop .inv) (c .loop-test .left)
 
@@ -417,165 +376,157 @@ play-Inv-loop s cs k x y here next₀ first₀ second₀ found₀ left₀ next f
 abbrev play-μ-loop : play-lts.MeasureT-loop
 play-μ-loop s cs k x y here next₀ first₀ second₀ found₀ left₀ next first second found left = left
 
--- src/costs.rt:197:5
 play-loop-holds : (t : ℕ) → play-lts.Need-loop-holds (play-calls t) (play-at t) play.Post play-Inv-loop play-μ-loop
 play-loop-holds t c = play-begun (c .before .before .before .before .before .before .pre .1 .0) (c .before .before .before .before .before .before .pre .1 .1 .0) (c .before .before .before .before .before .before .pre .1 .1 .1)
 
--- src/costs.rt:198:17
 play-cast-l : (t : ℕ) → play-lts.Need-cast-l (play-calls t) (play-at t) play.Post play-Inv-loop play-μ-loop
 play-cast-l t c = omega (arith, lowest-small (c .before .before .before .before .before .before .before .before .pre .1 .0) (c .before .before .before .before .before .before .before .before .pre .1 .1 .0) (c .before .loop .inv) (c .loop-test .taken))
 
--- src/costs.rt:199:22
 play-wide-requires : (t : ℕ) → play-lts.Need-wide-requires (play-calls t) (play-at t) play.Post play-Inv-loop play-μ-loop
 play-wide-requires t c κs = search needs
 
--- src/costs.rt:199:17
 play-shared-slice-read-e : (t : ℕ) → play-lts.Need-shared-slice-read-e (play-calls t) (play-at t) play.Post play-Inv-loop play-μ-loop
-play-shared-slice-read-e t c = omega (arith, c .before .wide .ensures .0, lowest-small (c .before .before .before .before .before .before .before .before .before .before .pre .1 .0) (c .before .before .before .before .before .before .before .before .before .before .pre .1 .1 .0) (c .before .before .before .loop .inv) (c .before .before .loop-test .taken), c .before .before .before .before .before .before .before .before .before .before .pre .1 .1 .0 .each)
+play-shared-slice-read-e t c =
+    let a = c .before .before .before .before .before .before .before .before .before .before in
+    omega (arith, c .before .wide .ensures .0, lowest-small (a .pre .1 .0) (a .pre .1 .1 .0) (c .before .before .before .loop .inv) (c .before .before .loop-test .taken), a .pre .1 .1 .0 .each)
 
--- src/costs.rt:200:9
 play-leave-requires : (t : ℕ) → play-lts.Need-leave-requires (play-calls t) (play-at t) play.Post play-Inv-loop play-μ-loop
-play-leave-requires t c κs = let a = c .before .before .before .before .before .before .before .before .before .before .before .before .before .pre .1 .0 in let g = c .before .before .before .before .before .before .before .before .before .before .before .before .before .pre .1 .1 .0 in let h = c .before .before .before .before .before .before .loop .inv in let q = c .before .before .before .before .before .loop-test .taken in (omega (arith, c .before .before .before .before .before .before .before .before .before .before .before .before .before .pre .0), (play-searching a g h, (h .chain, lowest-in a g h q)))
+play-leave-requires t c κs =
+    let b = c .before .before .before .before .before .before .before .before .before .before .before .before .before in
+    let a = b .pre .1 .0 in
+    let g = b .pre .1 .1 .0 in
+    let h = c .before .before .before .before .before .before .loop .inv in
+    let q = c .before .before .before .before .before .loop-test .taken in
+    (omega (arith, b .pre .0), (play-searching a g h, (h .chain, lowest-in a g h q)))
 
--- src/costs.rt:201:24
 play-sub-left : (t : ℕ) → play-lts.Need-sub-left (play-calls t) (play-at t) play.Post play-Inv-loop play-μ-loop
 play-sub-left t c = omega (arith, c .before .before .before .before .before .before .before .before .before .before .before .before .loop-test .taken)
 
--- src/costs.rt:197:5
 play-loop-less : (t : ℕ) → play-lts.Need-loop-less (play-calls t) (play-at t) play.Post play-Inv-loop play-μ-loop
 play-loop-less t c = omega (arith, c .before .before .before .before .before .before .before .before .before .before .before .before .loop-test .taken, and-le-r (c .before .before .before .before .before .before .before .before .before .before .before .before .before .loop .left) (c .before .before .before .before .before .before .before .before .before .before .before .before .before .loop .left - 1))
 
--- src/costs.rt:197:5
 play-loop-again : (t : ℕ) → play-lts.Need-loop-again (play-calls t) (play-at t) play.Post play-Inv-loop play-μ-loop
-play-loop-again t c = let f = c .before .before .before .before .before .before .leave in play-next (c .before .before .before .before .before .before .before .before .before .before .before .before .before .before .before .before .before .before .before .before .pre .1 .0) (c .before .before .before .before .before .before .before .before .before .before .before .before .before .before .before .before .before .before .before .before .pre .1 .1 .0) (c .before .before .before .before .before .before .before .before .before .before .before .before .before .loop .inv) (c .before .before .before .before .before .before .before .before .before .before .before .before .loop-test .taken) refl (ap (λ (i : ℕ). getD (c .before .before .before .before .before .before .before .before .before .before .before .before .before .before .before .before .before .before .before .before .args .here .now) i 0) (c .before .before .before .before .before .before .before .before .before .before .before .wide .ensures .0)) (f .ensures) (f .kept .1 .1 .1 .1 .1 .1 .1 .1 .0) (f .kept .1 .1 .1 .1 .1 .1 .1 .1 .1 .0) (f .kept .1 .1 .1 .1 .1 .1 .1 .1 .1 .1 .0)
+play-loop-again t c =
+    let a = c .before .before .before .before .before .before .before .before .before .before .before .before .before .before .before .before .before .before .before .before in
+    let f = c .before .before .before .before .before .before .leave in
+    play-next (a .pre .1 .0) (a .pre .1 .1 .0) (c .before .before .before .before .before .before .before .before .before .before .before .before .before .loop .inv) (c .before .before .before .before .before .before .before .before .before .before .before .before .loop-test .taken) refl (ap (λ (i : ℕ). getD (a .args .here .now) i 0) (c .before .before .before .before .before .before .before .before .before .before .before .wide .ensures .0)) (f .ensures) (f .kept .1 .1 .1 .1 .1 .1 .1 .1 .0) (f .kept .1 .1 .1 .1 .1 .1 .1 .1 .1 .0) (f .kept .1 .1 .1 .1 .1 .1 .1 .1 .1 .1 .0)
 
--- src/costs.rt:177:1
 play-same-length : (t : ℕ) → play-lts.Need-same-length (play-calls t) (play-at t) play.Post play-Inv-loop play-μ-loop
 play-same-length t c = search needs
 
--- src/costs.rt:177:1
 play-same-length-2 : (t : ℕ) → play-lts.Need-same-length-2 (play-calls t) (play-at t) play.Post play-Inv-loop play-μ-loop
 play-same-length-2 t c = search needs
 
--- src/costs.rt:177:1
 play-same-length-3 : (t : ℕ) → play-lts.Need-same-length-3 (play-calls t) (play-at t) play.Post play-Inv-loop play-μ-loop
 play-same-length-3 t c = search needs
 
--- src/costs.rt:177:1
 play-returns : (t : ℕ) → play-lts.Need-returns (play-calls t) (play-at t) play.Post play-Inv-loop play-μ-loop
 play-returns t c = play-done (c .before .before .before .before .before .before .before .before .pre .1 .0) (c .before .before .before .before .before .before .before .before .pre .1 .1 .0) (c .before .loop .inv) (λ l. omega (arith, c .loop-test .left))
 
--- src/costs.rt:251:8
 rule-shared-slice-read-if1 : (t : ℕ) → rule-lts.Need-shared-slice-read-if1 (rule-calls t) (rule-at t) rule.Post
 rule-shared-slice-read-if1 t c = omega (arith, c .before .before .before .before .before .before .pre .1 .1 .1 .0)
 
--- src/costs.rt:251:16
 rule-shared-slice-read-if1-2 : (t : ℕ) → rule-lts.Need-shared-slice-read-if1-2 (rule-calls t) (rule-at t) rule.Post
 rule-shared-slice-read-if1-2 t c = omega (arith, c .before .before .before .before .before .before .before .pre .1 .0 .more)
 
--- src/costs.rt:252:9
 rule-returns : (t : ℕ) → rule-lts.Need-returns (rule-calls t) (rule-at t) rule.Post
-rule-returns t c = rule-other (c .before .before .before .before .before .before .before .before .pre .1 .0) (c .before .before .before .before .before .before .before .before .pre .1 .1 .0) (transitionAt (c .before .before .before .before .before .before .before .before .args .s .now) (c .before .before .before .before .before .before .before .before .args .p)) (c .before .before .before .before .before .before .before .before .args .e) (c .if1 .taken)
+rule-returns t c =
+    let a = c .before .before .before .before .before .before .before .before in
+    rule-other (a .pre .1 .0) (a .pre .1 .1 .0) (transitionAt (a .args .s .now) (a .args .p)) (a .args .e) (c .if1 .taken)
 
--- src/costs.rt:254:33
 rule-first-wait-requires : (t : ℕ) → rule-lts.Need-first-wait-requires (rule-calls t) (rule-at t) rule.Post
 rule-first-wait-requires t c κs = c .before .before .before .before .before .before .before .before .pre .1 .1 .1 .0
 
--- src/costs.rt:254:9
 rule-larger-requires : (t : ℕ) → rule-lts.Need-larger-requires (rule-calls t) (rule-at t) rule.Post
 rule-larger-requires t c κs = search needs
 
--- src/costs.rt:255:9
 rule-end-wait-requires : (t : ℕ) → rule-lts.Need-end-wait-requires (rule-calls t) (rule-at t) rule.Post
 rule-end-wait-requires t c κs = let b = c .before .before .before .before .before .before .before .before .before .before .pre .1 in (b .1 .1 .0, (b .0 .first-fits, b .0 .second-fits))
 
--- src/costs.rt:257:9
 rule-returns-2 : (t : ℕ) → rule-lts.Need-returns-2 (rule-calls t) (rule-at t) rule.Post
-rule-returns-2 t c = rule-none (c .before .before .before .before .before .before .before .before .before .before .before .before .pre .1 .0) (c .before .before .before .before .before .before .before .before .before .before .before .before .pre .1 .1 .0) (transitionAt (c .before .before .before .before .before .before .before .before .before .before .before .before .args .s .now) (c .before .before .before .before .before .before .before .before .before .before .before .before .args .p)) (c .before .before .before .before .before .before .before .before .before .before .before .before .args .e) (c .before .before .before .first-wait .ensures) (c .before .before .larger .ensures) (c .before .end-wait .ensures) (c .if2 .taken)
+rule-returns-2 t c =
+    let a = c .before .before .before .before .before .before .before .before .before .before .before .before in
+    rule-none (a .pre .1 .0) (a .pre .1 .1 .0) (transitionAt (a .args .s .now) (a .args .p)) (a .args .e) (c .before .before .before .first-wait .ensures) (c .before .before .larger .ensures) (c .before .end-wait .ensures) (c .if2 .taken)
 
--- src/costs.rt:259:22
 rule-cast-if3 : (t : ℕ) → rule-lts.Need-cast-if3 (rule-calls t) (rule-at t) rule.Post
 rule-cast-if3 t c = search needs
 
--- src/costs.rt:260:9
 rule-returns-3 : (t : ℕ) → rule-lts.Need-returns-3 (rule-calls t) (rule-at t) rule.Post
-rule-returns-3 t c = rule-late (c .before .before .before .before .before .before .before .before .before .before .before .before .before .before .pre .1 .0) (c .before .before .before .before .before .before .before .before .before .before .before .before .before .before .pre .1 .1 .0) (transitionAt (c .before .before .before .before .before .before .before .before .before .before .before .before .before .before .args .s .now) (c .before .before .before .before .before .before .before .before .before .before .before .before .before .before .args .p)) (c .before .before .before .before .before .before .before .before .before .before .before .before .before .before .args .e) (c .before .before .before .before .before .first-wait .ensures) (c .before .before .before .before .larger .ensures) (c .before .before .before .end-wait .ensures) (c .if3 .taken)
+rule-returns-3 t c =
+    let a = c .before .before .before .before .before .before .before .before .before .before .before .before .before .before in
+    rule-late (a .pre .1 .0) (a .pre .1 .1 .0) (transitionAt (a .args .s .now) (a .args .p)) (a .args .e) (c .before .before .before .before .before .first-wait .ensures) (c .before .before .before .before .larger .ensures) (c .before .before .before .end-wait .ensures) (c .if3 .taken)
 
--- src/costs.rt:262:15
 rule-add-t : (t : ℕ) → rule-lts.Need-add-t (rule-calls t) (rule-at t) rule.Post
 rule-add-t t c = omega (arith, c .before .before .before .before .before .before .before .before .before .before .before .before .before .before .pre .1 .1 .1 .0)
 
--- src/costs.rt:262:13
 rule-shared-slice-read-t : (t : ℕ) → rule-lts.Need-shared-slice-read-t (rule-calls t) (rule-at t) rule.Post
 rule-shared-slice-read-t t c = omega (arith, c .before .before .before .before .before .before .before .before .before .before .before .before .before .before .before .pre .1 .1 .1 .0)
 
--- src/costs.rt:263:8
 rule-add-if4 : (t : ℕ) → rule-lts.Need-add-if4 (rule-calls t) (rule-at t) rule.Post
 rule-add-if4 t c = omega (arith, c .before .before .before .before .before .before .before .before .before .before .before .before .before .before .before .pre .1 .0 .more)
 
--- src/costs.rt:264:26
 rule-wide-requires : (t : ℕ) → rule-lts.Need-wide-requires (rule-calls t) (rule-at t) rule.Post
 rule-wide-requires t c κs = search needs
 
--- src/costs.rt:264:9
 rule-finish-requires : (t : ℕ) → rule-lts.Need-finish-requires (rule-calls t) (rule-at t) rule.Post
-rule-finish-requires t c κs = let b = c .before .before .before .before .before .before .before .before .before .before .before .before .before .before .before .before .before .pre .1 in (b .0 .ground .loads, omega (arith, c .wide .ensures .0, header (c .before .before .before .before .before .before .before .before .before .before .before .before .before .before .before .before .before .args .s .now) (b .0 .ground .loads) .locations-fit, b .1 .1 .1 .target-fits))
+rule-finish-requires t c κs =
+    let a = c .before .before .before .before .before .before .before .before .before .before .before .before .before .before .before .before .before in
+    let b = a .pre .1 in
+    (b .0 .ground .loads, omega (arith, c .wide .ensures .0, header (a .args .s .now) (b .0 .ground .loads) .locations-fit, b .1 .1 .1 .target-fits))
 
--- src/costs.rt:264:9
 rule-returns-4 : (t : ℕ) → rule-lts.Need-returns-4 (rule-calls t) (rule-at t) rule.Post
-rule-returns-4 t c = rule-last (c .before .before .before .before .before .before .before .before .before .before .before .before .before .before .before .before .before .before .pre .1 .0) (c .before .before .before .before .before .before .before .before .before .before .before .before .before .before .before .before .before .before .pre .1 .1 .0) (transitionAt (c .before .before .before .before .before .before .before .before .before .before .before .before .before .before .before .before .before .before .args .s .now) (c .before .before .before .before .before .before .before .before .before .before .before .before .before .before .before .before .before .before .args .p)) (c .before .before .before .before .before .before .before .before .before .before .before .before .before .before .before .before .before .before .args .e) (c .before .before .before .before .before .before .before .before .before .first-wait .ensures) (c .before .before .before .before .before .before .before .before .larger .ensures) (c .before .before .before .before .before .before .before .end-wait .ensures) (c .before .before .before .before .before .before .before .before .before .before .if1 .left) (c .before .before .before .before .before .before .if2 .left) (c .before .before .before .before .before .before .before .before .before .before .before .before .before .before .before .before .before .before .pre .1 .1 .1 .1) (c .before .before .before .before .if3 .left) (c .before .before .if4 .taken) (c .finish .ensures .0) (c .finish .ensures .1 ∙ ap (λ (i : ℕ). cond (accepting (c .before .before .before .before .before .before .before .before .before .before .before .before .before .before .before .before .before .before .args .s .now) i) (c .before .before .before .before .before .before .before .before .larger .result) (c .before .before .before .before .before .before .before .before .before .before .before .before .before .before .before .before .before .before .args .front .best)) (c .before .wide .ensures .0))
+rule-returns-4 t c =
+    let a = c .before .before .before .before .before .before .before .before .before .before .before .before .before .before .before .before .before .before in
+    rule-last (a .pre .1 .0) (a .pre .1 .1 .0) (transitionAt (a .args .s .now) (a .args .p)) (a .args .e) (c .before .before .before .before .before .before .before .before .before .first-wait .ensures) (c .before .before .before .before .before .before .before .before .larger .ensures) (c .before .before .before .before .before .before .before .end-wait .ensures) (c .before .before .before .before .before .before .before .before .before .before .if1 .left) (c .before .before .before .before .before .before .if2 .left) (a .pre .1 .1 .1 .1) (c .before .before .before .before .if3 .left) (c .before .before .if4 .taken) (c .finish .ensures .0) (c .finish .ensures .1 ∙ ap (λ (i : ℕ). cond (accepting (a .args .s .now) i) (c .before .before .before .before .before .before .before .before .larger .result) (a .args .front .best)) (c .before .wide .ensures .0))
 
--- src/costs.rt:266:17
 rule-add-set : (t : ℕ) → rule-lts.Need-add-set (rule-calls t) (rule-at t) rule.Post
 rule-add-set t c = omega (arith, c .before .before .before .before .before .before .before .before .before .before .before .before .before .before .before .before .pre .1 .1 .1 .0)
 
--- src/costs.rt:266:15
 rule-shared-slice-read-set : (t : ℕ) → rule-lts.Need-shared-slice-read-set (rule-calls t) (rule-at t) rule.Post
 rule-shared-slice-read-set t c = omega (arith, c .before .before .before .before .before .before .before .before .before .before .before .before .before .before .before .before .before .pre .1 .1 .1 .0)
 
--- src/costs.rt:268:28
 rule-wide-requires-2 : (t : ℕ) → rule-lts.Need-wide-requires-2 (rule-calls t) (rule-at t) rule.Post
 rule-wide-requires-2 t c κs = search needs
 
--- src/costs.rt:268:9
 rule-reach-requires : (t : ℕ) → rule-lts.Need-reach-requires (rule-calls t) (rule-at t) rule.Post
-rule-reach-requires t c κs = let b = c .before .before .before .before .before .before .before .before .before .before .before .before .before .before .before .before .before .before .before .before .pre .1 in let n = header (c .before .before .before .before .before .before .before .before .before .before .before .before .before .before .before .before .before .before .before .before .args .s .now) (b .0 .ground .loads) .locations-fit in (omega (arith, c .wide2 .ensures .0, b .1 .1 .1 .target-fits, b .1 .0 .each), omega (arith, c .wide2 .ensures .0, b .1 .1 .1 .target-fits))
+rule-reach-requires t c κs =
+    let a = c .before .before .before .before .before .before .before .before .before .before .before .before .before .before .before .before .before .before .before .before in
+    let b = a .pre .1 in
+    let n = header (a .args .s .now) (b .0 .ground .loads) .locations-fit in
+    (omega (arith, c .wide2 .ensures .0, b .1 .1 .1 .target-fits, b .1 .0 .each), omega (arith, c .wide2 .ensures .0, b .1 .1 .1 .target-fits))
 
--- src/costs.rt:268:9
 rule-same-length : (t : ℕ) → rule-lts.Need-same-length (rule-calls t) (rule-at t) rule.Post
 rule-same-length t c = search needs
 
--- src/costs.rt:268:9
 rule-returns-5 : (t : ℕ) → rule-lts.Need-returns-5 (rule-calls t) (rule-at t) rule.Post
-rule-returns-5 t c = rule-on (c .before .before .before .before .before .before .before .before .before .before .before .before .before .before .before .before .before .before .before .before .before .before .before .pre .1 .0) (c .before .before .before .before .before .before .before .before .before .before .before .before .before .before .before .before .before .before .before .before .before .before .before .pre .1 .1 .0) (transitionAt (c .before .before .before .before .before .before .before .before .before .before .before .before .before .before .before .before .before .before .before .before .before .before .before .args .s .now) (c .before .before .before .before .before .before .before .before .before .before .before .before .before .before .before .before .before .before .before .before .before .before .before .args .p)) (c .before .before .before .before .before .before .before .before .before .before .before .before .before .before .before .before .before .before .before .before .before .before .before .args .e) (c .before .before .before .before .before .before .before .before .before .before .before .before .before .before .first-wait .ensures) (c .before .before .before .before .before .before .before .before .before .before .before .before .before .larger .ensures) (c .before .before .before .before .before .before .before .before .before .before .before .before .end-wait .ensures) (c .before .before .before .before .before .before .before .before .before .before .before .before .before .before .before .if1 .left) (c .before .before .before .before .before .before .before .before .before .before .before .if2 .left) (c .before .before .before .before .before .before .before .before .before .before .before .before .before .before .before .before .before .before .before .before .before .before .before .pre .1 .1 .1 .1) (c .before .before .before .before .before .before .before .if4 .left) (c .before .before .before .before .before .if5 .taken) (c .before .before .before .wide2 .ensures .0) (c .before .before .reach .ensures .0) (c .before .before .reach .ensures .1)
+rule-returns-5 t c =
+    let a = c .before .before .before .before .before .before .before .before .before .before .before .before .before .before .before .before .before .before .before .before .before .before .before in
+    rule-on (a .pre .1 .0) (a .pre .1 .1 .0) (transitionAt (a .args .s .now) (a .args .p)) (a .args .e) (c .before .before .before .before .before .before .before .before .before .before .before .before .before .before .first-wait .ensures) (c .before .before .before .before .before .before .before .before .before .before .before .before .before .larger .ensures) (c .before .before .before .before .before .before .before .before .before .before .before .before .end-wait .ensures) (c .before .before .before .before .before .before .before .before .before .before .before .before .before .before .before .if1 .left) (c .before .before .before .before .before .before .before .before .before .before .before .if2 .left) (a .pre .1 .1 .1 .1) (c .before .before .before .before .before .before .before .if4 .left) (c .before .before .before .before .before .if5 .taken) (c .before .before .before .wide2 .ensures .0) (c .before .before .reach .ensures .0) (c .before .before .reach .ensures .1)
 
--- src/costs.rt:270:9
 rule-kept-requires : (t : ℕ) → rule-lts.Need-kept-requires (rule-calls t) (rule-at t) rule.Post
 rule-kept-requires t c κs = let b = c .before .before .before .before .before .before .before .before .before .before .before .before .before .before .before .before .before .before .pre .1 in ((c .if5 .left, b .1 .1 .1 .resets-fit), (b .0 .first-fits, b .0 .second-fits))
 
--- src/costs.rt:271:27
 rule-sub-worth : (t : ℕ) → rule-lts.Need-sub-worth (rule-calls t) (rule-at t) rule.Post
 rule-sub-worth t c = omega (arith, c .before .before .before .before .before .before .before .if2 .left)
 
--- src/costs.rt:271:9
 rule-worth-requires : (t : ℕ) → rule-lts.Need-worth-requires (rule-calls t) (rule-at t) rule.Post
 rule-worth-requires t c κs = let b = c .before .before .before .before .before .before .before .before .before .before .before .before .before .before .before .before .before .before .before .pre .1 in (b .1 .1 .1 .resets-fit, c .kept .ensures .1)
 
--- src/costs.rt:272:9
 rule-over-requires : (t : ℕ) → rule-lts.Need-over-requires (rule-calls t) (rule-at t) rule.Post
-rule-over-requires t c κs = (omega (arith, c .before .before .before .before .before .before .before .before .before .before .before .before .before .before .before .before .before .before .before .before .before .before .pre .0), over-asked (c .before .before .before .before .before .before .before .before .before .before .before .before .before .before .before .before .before .before .before .before .before .before .pre .1 .0) (c .before .before .before .before .before .before .before .before .before .before .before .before .before .before .before .before .before .before .before .before .before .before .pre .1 .1 .0) (transitionAt (c .before .before .before .before .before .before .before .before .before .before .before .before .before .before .before .before .before .before .before .before .before .before .args .s .now) (c .before .before .before .before .before .before .before .before .before .before .before .before .before .before .before .before .before .before .before .before .before .before .args .p)) (c .before .before .before .before .before .before .before .before .before .before .before .before .before .before .before .before .before .before .before .before .before .before .args .e) (c .before .before .before .before .before .before .before .before .before .before .before .before .before .first-wait .ensures) (c .before .before .before .before .before .before .before .before .before .before .before .before .larger .ensures) (c .before .before .before .before .before .before .before .before .before .before .before .end-wait .ensures) (c .before .before .before .before .before .before .before .before .before .before .before .before .before .before .if1 .left) (c .before .before .before .before .before .before .before .before .before .before .if2 .left) (c .before .before .before .before .before .before .before .before .before .before .before .before .before .before .before .before .before .before .before .before .before .before .pre .1 .1 .1 .1) (c .before .before .before .before .before .before .if4 .left) (c .before .before .before .before .if5 .left) (c .before .before .before .kept .ensures .0) (c .before .before .before .kept .ensures .1) (c .before .before .worth .ensures))
+rule-over-requires t c κs =
+    let a = c .before .before .before .before .before .before .before .before .before .before .before .before .before .before .before .before .before .before .before .before .before .before in
+    (omega (arith, a .pre .0), over-asked (a .pre .1 .0) (a .pre .1 .1 .0) (transitionAt (a .args .s .now) (a .args .p)) (a .args .e) (c .before .before .before .before .before .before .before .before .before .before .before .before .before .first-wait .ensures) (c .before .before .before .before .before .before .before .before .before .before .before .before .larger .ensures) (c .before .before .before .before .before .before .before .before .before .before .before .end-wait .ensures) (c .before .before .before .before .before .before .before .before .before .before .before .before .before .before .if1 .left) (c .before .before .before .before .before .before .before .before .before .before .if2 .left) (a .pre .1 .1 .1 .1) (c .before .before .before .before .before .before .if4 .left) (c .before .before .before .before .if5 .left) (c .before .before .before .kept .ensures .0) (c .before .before .before .kept .ensures .1) (c .before .before .worth .ensures))
 
--- src/costs.rt:235:1
 rule-same-length-2 : (t : ℕ) → rule-lts.Need-same-length-2 (rule-calls t) (rule-at t) rule.Post
 rule-same-length-2 t c = search needs
 
--- src/costs.rt:235:1
 rule-same-length-3 : (t : ℕ) → rule-lts.Need-same-length-3 (rule-calls t) (rule-at t) rule.Post
 rule-same-length-3 t c = search needs
 
--- src/costs.rt:235:1
 rule-returns-6 : (t : ℕ) → rule-lts.Need-returns-6 (rule-calls t) (rule-at t) rule.Post
-rule-returns-6 t c = rule-reset (c .before .before .before .before .before .before .before .before .before .before .before .before .before .before .before .before .before .before .before .before .before .before .before .before .before .before .before .pre .1 .0) (c .before .before .before .before .before .before .before .before .before .before .before .before .before .before .before .before .before .before .before .before .before .before .before .before .before .before .before .pre .1 .1 .0) (transitionAt (c .before .before .before .before .before .before .before .before .before .before .before .before .before .before .before .before .before .before .before .before .before .before .before .before .before .before .before .args .s .now) (c .before .before .before .before .before .before .before .before .before .before .before .before .before .before .before .before .before .before .before .before .before .before .before .before .before .before .before .args .p)) (c .before .before .before .before .before .before .before .before .before .before .before .before .before .before .before .before .before .before .before .before .before .before .before .before .before .before .before .args .e) (c .before .before .before .before .before .before .before .before .before .before .before .before .before .before .before .before .before .before .first-wait .ensures) (c .before .before .before .before .before .before .before .before .before .before .before .before .before .before .before .before .before .larger .ensures) (c .before .before .before .before .before .before .before .before .before .before .before .before .before .before .before .before .end-wait .ensures) (c .before .before .before .before .before .before .before .before .before .before .before .before .before .before .before .before .before .before .before .if1 .left) (c .before .before .before .before .before .before .before .before .before .before .before .before .before .before .before .if2 .left) (c .before .before .before .before .before .before .before .before .before .before .before .before .before .before .before .before .before .before .before .before .before .before .before .before .before .before .before .pre .1 .1 .1 .1) (c .before .before .before .before .before .before .before .before .before .before .before .if4 .left) (c .before .before .before .before .before .before .before .before .before .if5 .left) (c .before .before .before .before .before .before .before .before .kept .ensures .0) (c .before .before .before .before .before .before .before .before .kept .ensures .1) (c .before .before .before .before .before .before .before .worth .ensures) (c .before .before .before .before .over .ensures)
+rule-returns-6 t c =
+    let a = c .before .before .before .before .before .before .before .before .before .before .before .before .before .before .before .before .before .before .before .before .before .before .before .before .before .before .before in
+    rule-reset (a .pre .1 .0) (a .pre .1 .1 .0) (transitionAt (a .args .s .now) (a .args .p)) (a .args .e) (c .before .before .before .before .before .before .before .before .before .before .before .before .before .before .before .before .before .before .first-wait .ensures) (c .before .before .before .before .before .before .before .before .before .before .before .before .before .before .before .before .before .larger .ensures) (c .before .before .before .before .before .before .before .before .before .before .before .before .before .before .before .before .end-wait .ensures) (c .before .before .before .before .before .before .before .before .before .before .before .before .before .before .before .before .before .before .before .if1 .left) (c .before .before .before .before .before .before .before .before .before .before .before .before .before .before .before .if2 .left) (a .pre .1 .1 .1 .1) (c .before .before .before .before .before .before .before .before .before .before .before .if4 .left) (c .before .before .before .before .before .before .before .before .before .if5 .left) (c .before .before .before .before .before .before .before .before .kept .ensures .0) (c .before .before .before .before .before .before .before .before .kept .ensures .1) (c .before .before .before .before .before .before .before .worth .ensures) (c .before .before .before .before .over .ensures)
 
 pub +after+chain+leave+over+play+rule-spec : {M : Type 1} → statement M
 +after+chain+leave+over+play+rule-spec =

@@ -39,7 +39,9 @@ same-length-4 : tie.Need-same-length-4
 same-length-4 c = search needs
 
 returns-3 : tie.Need-returns-3
-returns-3 c = first-zero (c .before .before .before .before .before .before .before .before .before .before .before .before .before .before .args .k) (c .before .before .before .before .before .before .before .before .before .before .before .before .before .before .args .l) (c .before .before .before .before .before .before .before .before .before .before .before .before .before .before .args .t5) (c .before .before .before .before .before .before .before .if3 .taken) (c .before .before .before .before .after .ensures)
+returns-3 c =
+    let a = c .before .before .before .before .before .before .before .before .before .before .before .before .before .before in
+    first-zero (a .args .k) (a .args .l) (a .args .t5) (c .before .before .before .before .before .before .before .if3 .taken) (c .before .before .before .before .after .ensures)
 
 after-requires-2 : tie.Need-after-requires-2
 after-requires-2 c κs = let p = c .before .before .before .before .before .before .before .before .before .before .pre in after-here (p .0) (p .1 .0) (p .1 .1) (c .before .before .before .before .before .if1 .left) (c .before .before .before .before .if2 .left) (p .1 .1 .readings .first)
@@ -51,7 +53,9 @@ same-length-6 : tie.Need-same-length-6
 same-length-6 c = search needs
 
 returns-4 : tie.Need-returns-4
-returns-4 c = second-zero (c .before .before .before .before .before .before .before .before .before .before .before .before .before .before .before .args .k) (c .before .before .before .before .before .before .before .before .before .before .before .before .before .before .before .args .l) (c .before .before .before .before .before .before .before .before .before .before .before .before .before .before .before .args .t5) (c .before .before .before .before .before .before .before .if4 .taken) (c .before .before .before .before .after2 .ensures)
+returns-4 c =
+    let a = c .before .before .before .before .before .before .before .before .before .before .before .before .before .before .before in
+    second-zero (a .args .k) (a .args .l) (a .args .t5) (c .before .before .before .before .before .before .before .if4 .taken) (c .before .before .before .before .after2 .ensures)
 
 chain-requires-2 : tie.Need-chain-requires-2
 chain-requires-2 c κs = let p = c .before .before .before .before .before .before .before .before .before .before .pre in (searching-here (p .0) (p .1 .0) (p .1 .1) (c .before .before .before .before .before .if1 .left), p .1 .1 .in-sheet)

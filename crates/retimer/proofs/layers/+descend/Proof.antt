@@ -21,123 +21,53 @@ descend-at t = and 8 descend-kinds.ps (is 8 descend-kinds.ps μ-descend t) desce
 abbrev descend-below : ℕ → In 8 descend-kinds.ps
 descend-below t = and 8 descend-kinds.ps (falls 8 descend-kinds.ps _<_ μ-descend t) descend.Pre
 
--- src/layers.rt:250:9
-descend-returns : (t : ℕ) → descend-lts.Need-returns (
-  lay-all-reads.Asked,
-  lay-all-reads.Learnt,
-  descend-below t,
-  descend.Post,
-) (descend-at t) descend.Post
+abbrev descend-calls : ℕ → descend-lts.Claims
+descend-calls t = (lay-all-reads.Asked, lay-all-reads.Learnt, descend-below t, descend.Post)
+
+descend-returns : (t : ℕ) → descend-lts.Need-returns (descend-calls t) (descend-at t) descend.Post
 descend-returns t c = filled (c .before .before .before .before .before .before .before .before .before .pre .1 .0 .0) (omega arith)
 
--- src/layers.rt:252:20
-descend-sub-lay-all : (t : ℕ) → descend-lts.Need-sub-lay-all (
-  lay-all-reads.Asked,
-  lay-all-reads.Learnt,
-  descend-below t,
-  descend.Post,
-) (descend-at t) descend.Post
+descend-sub-lay-all : (t : ℕ) → descend-lts.Need-sub-lay-all (descend-calls t) (descend-at t) descend.Post
 descend-sub-lay-all t c = omega arith
 
--- src/layers.rt:252:5
-descend-lay-all-requires : (t : ℕ) → descend-lts.Need-lay-all-requires (
-  lay-all-reads.Asked,
-  lay-all-reads.Learnt,
-  descend-below t,
-  descend.Post,
-) (descend-at t) descend.Post
-descend-lay-all-requires t c κs = ((laying-next (c .before .before .before .before .before .before .before .before .before .before .before .before .before .before .before .pre .1 .0 .0) (c .before .before .before .before .before .before .before .before .before .before .before .before .before .before .before .pre .1 .0 .1) (omega arith), omega arith), (c .before .before .before .before .before .before .before .before .before .before .before .before .before .before .before .pre .1 .1, (c .before .before .before .before .before .before .before .before .before .before .before .before .before .before .before .pre .1 .0 .0 .ground, full-next (c .before .before .before .before .before .before .before .before .before .before .before .before .before .before .before .pre .1 .0 .0) (omega arith))))
+descend-lay-all-requires : (t : ℕ) → descend-lts.Need-lay-all-requires (descend-calls t) (descend-at t) descend.Post
+descend-lay-all-requires t c κs =
+    let a = c .before .before .before .before .before .before .before .before .before .before .before .before .before .before .before in
+    ((laying-next (a .pre .1 .0 .0) (a .pre .1 .0 .1) (omega arith), omega arith), (a .pre .1 .1, (a .pre .1 .0 .0 .ground, full-next (a .pre .1 .0 .0) (omega arith))))
 
--- src/layers.rt:253:20
-descend-sub-descend : (t : ℕ) → descend-lts.Need-sub-descend (
-  lay-all-reads.Asked,
-  lay-all-reads.Learnt,
-  descend-below t,
-  descend.Post,
-) (descend-at t) descend.Post
+descend-sub-descend : (t : ℕ) → descend-lts.Need-sub-descend (descend-calls t) (descend-at t) descend.Post
 descend-sub-descend t c = omega arith
 
--- src/layers.rt:253:5
-descend-descend-requires : (t : ℕ) → descend-lts.Need-descend-requires (
-  lay-all-reads.Asked,
-  lay-all-reads.Learnt,
-  descend-below t,
-  descend.Post,
-) (descend-at t) descend.Post
-descend-descend-requires t c κs = (omega (arith, c .before .before .before .before .before .before .before .before .before .before .before .before .before .before .before .before .before .before .before .before .before .before .before .before .before .before .before .before .before .before .pre .0), ((c .before .before .before .before .before .before .before .before .before .before .before .before .before .before .lay-all .ensures, omega (arith, c .before .before .before .before .before .before .before .before .before .before .before .before .before .before .before .before .before .before .before .before .before .before .before .before .before .before .before .before .before .before .pre .1 .0 .1)), (ready-low (c .before .before .before .before .before .before .before .before .before .before .before .before .before .before .before .before .before .before .before .before .before .before .before .before .before .before .before .before .before .before .pre .1 .0 .0), ready-high (c .before .before .before .before .before .before .before .before .before .before .before .before .before .before .before .before .before .before .before .before .before .before .before .before .before .before .before .before .before .before .pre .1 .0 .0))))
+descend-descend-requires : (t : ℕ) → descend-lts.Need-descend-requires (descend-calls t) (descend-at t) descend.Post
+descend-descend-requires t c κs = (
+  omega (arith, c .before .before .before .before .before .before .before .before .before .before .before .before .before .before .before .before .before .before .before .before .before .before .before .before .before .before .before .before .before .before .pre .0),
+  let a = c .before .before .before .before .before .before .before .before .before .before .before .before .before .before .before .before .before .before .before .before .before .before .before .before .before .before .before .before .before .before in
+      ((c .before .before .before .before .before .before .before .before .before .before .before .before .before .before .lay-all .ensures, omega (arith, a .pre .1 .0 .1)), (ready-low (a .pre .1 .0 .0), ready-high (a .pre .1 .0 .0))),
+)
 
--- src/layers.rt:235:1
-descend-same-length : (t : ℕ) → descend-lts.Need-same-length (
-  lay-all-reads.Asked,
-  lay-all-reads.Learnt,
-  descend-below t,
-  descend.Post,
-) (descend-at t) descend.Post
+descend-same-length : (t : ℕ) → descend-lts.Need-same-length (descend-calls t) (descend-at t) descend.Post
 descend-same-length t c = search needs
 
--- src/layers.rt:235:1
-descend-same-length-2 : (t : ℕ) → descend-lts.Need-same-length-2 (
-  lay-all-reads.Asked,
-  lay-all-reads.Learnt,
-  descend-below t,
-  descend.Post,
-) (descend-at t) descend.Post
+descend-same-length-2 : (t : ℕ) → descend-lts.Need-same-length-2 (descend-calls t) (descend-at t) descend.Post
 descend-same-length-2 t c = search needs
 
--- src/layers.rt:235:1
-descend-same-length-3 : (t : ℕ) → descend-lts.Need-same-length-3 (
-  lay-all-reads.Asked,
-  lay-all-reads.Learnt,
-  descend-below t,
-  descend.Post,
-) (descend-at t) descend.Post
+descend-same-length-3 : (t : ℕ) → descend-lts.Need-same-length-3 (descend-calls t) (descend-at t) descend.Post
 descend-same-length-3 t c = search needs
 
--- src/layers.rt:235:1
-descend-same-length-4 : (t : ℕ) → descend-lts.Need-same-length-4 (
-  lay-all-reads.Asked,
-  lay-all-reads.Learnt,
-  descend-below t,
-  descend.Post,
-) (descend-at t) descend.Post
+descend-same-length-4 : (t : ℕ) → descend-lts.Need-same-length-4 (descend-calls t) (descend-at t) descend.Post
 descend-same-length-4 t c = search needs
 
--- src/layers.rt:235:1
-descend-same-length-5 : (t : ℕ) → descend-lts.Need-same-length-5 (
-  lay-all-reads.Asked,
-  lay-all-reads.Learnt,
-  descend-below t,
-  descend.Post,
-) (descend-at t) descend.Post
+descend-same-length-5 : (t : ℕ) → descend-lts.Need-same-length-5 (descend-calls t) (descend-at t) descend.Post
 descend-same-length-5 t c = search needs
 
--- src/layers.rt:235:1
-descend-same-length-6 : (t : ℕ) → descend-lts.Need-same-length-6 (
-  lay-all-reads.Asked,
-  lay-all-reads.Learnt,
-  descend-below t,
-  descend.Post,
-) (descend-at t) descend.Post
+descend-same-length-6 : (t : ℕ) → descend-lts.Need-same-length-6 (descend-calls t) (descend-at t) descend.Post
 descend-same-length-6 t c = search needs
 
--- src/layers.rt:235:1
-descend-returns-2 : (t : ℕ) → descend-lts.Need-returns-2 (
-  lay-all-reads.Asked,
-  lay-all-reads.Learnt,
-  descend-below t,
-  descend.Post,
-) (descend-at t) descend.Post
+descend-returns-2 : (t : ℕ) → descend-lts.Need-returns-2 (descend-calls t) (descend-at t) descend.Post
 descend-returns-2 t c = c .before .before .before .before .before .before .before .before .before .before .before .before .descend .ensures
 
 pub +descend-spec : {M : Type 1} → statement M
-+descend-spec = close μ-descend λ t. descend-lts.spec (
-  lay-all-reads.Asked,
-  lay-all-reads.Learnt,
-  descend-below t,
-  descend.Post,
-)
-    (descend-at t)
-    descend.Post
++descend-spec = close μ-descend λ t. descend-lts.spec (descend-calls t) (descend-at t) descend.Post
     (descend-returns t)
     (descend-sub-lay-all t)
     (descend-lay-all-requires t)

@@ -2,11 +2,10 @@
 use borrow.Author.Needs.{needs}
 use native.Mathlib.Omega.{arith}
 use mathlib.Core.Path.{refl}
-use Prim.Native.Nat.{_-_, _*_}
+use Prim.Native.Nat.{ℕ, _-_, _*_, _<_}
 use Rattle.enforcement.specs.Model.{width}
 use Rattle.retimer.specs.Layers.{half}
 use Rattle.retimer.proofs.LayingAll.{ready-none, layers-ended}
-use Prim.Native.Nat.{ℕ, _<_}
 use borrow.Fn.Kinds.{In}
 use borrow.Fn.PlainCycle.{Measures, is, falls, and}
 use Rattle.retimer.proofs.layers.with_tables.Reads as with-tables
@@ -28,350 +27,111 @@ abbrev with-tables-below : ℕ → In 7 with-tables-kinds.ps
 with-tables-below t =
     and 7 with-tables-kinds.ps (falls 7 with-tables-kinds.ps _<_ μ-with-tables t) with-tables.Pre
 
--- src/layers.rt:274:31
-with-tables-slice-aggregate-with-tables :
-    (t : ℕ) → with-tables-lts.Need-slice-aggregate-with-tables (
-      with-tables-below t,
-      with-tables.Post,
-      end-all-reads.Asked,
-      end-all-reads.Learnt,
-      descend-reads.Asked,
-      descend-reads.Learnt,
-    ) (with-tables-at t) with-tables.Post
+abbrev with-tables-calls : ℕ → with-tables-lts.Claims
+with-tables-calls t = (with-tables-below t, with-tables.Post, end-all-reads.Asked, end-all-reads.Learnt, descend-reads.Asked, descend-reads.Learnt)
+
+with-tables-slice-aggregate-with-tables : (t : ℕ) → with-tables-lts.Need-slice-aggregate-with-tables (with-tables-calls t) (with-tables-at t) with-tables.Post
 with-tables-slice-aggregate-with-tables t c = refl
 
--- src/layers.rt:274:9
-with-tables-with-tables-requires : (t : ℕ) → with-tables-lts.Need-with-tables-requires (
-  with-tables-below t,
-  with-tables.Post,
-  end-all-reads.Asked,
-  end-all-reads.Learnt,
-  descend-reads.Asked,
-  descend-reads.Learnt,
-) (with-tables-at t) with-tables.Post
-with-tables-with-tables-requires t c κs = (omega (arith, c .before .before .before .before .before .before .before .before .before .before .before .before .before .pre .0), ((c .before .before .before .before .before .before .before .before .before .before .before .before .before .pre .1 .0 .0, omega arith), ((λ h. ready-none (half * (width * width)) (omega arith)), ((λ h. absurd (omega arith)), (λ h. absurd (omega arith))))))
+with-tables-with-tables-requires : (t : ℕ) → with-tables-lts.Need-with-tables-requires (with-tables-calls t) (with-tables-at t) with-tables.Post
+with-tables-with-tables-requires t c κs =
+    let a = c .before .before .before .before .before .before .before .before .before .before .before .before .before in
+    (omega (arith, a .pre .0), ((a .pre .1 .0 .0, omega arith), ((λ h. ready-none (half * (width * width)) (omega arith)), ((λ h. absurd (omega arith)), (λ h. absurd (omega arith))))))
 
--- src/layers.rt:275:9
-with-tables-same-length : (t : ℕ) → with-tables-lts.Need-same-length (
-  with-tables-below t,
-  with-tables.Post,
-  end-all-reads.Asked,
-  end-all-reads.Learnt,
-  descend-reads.Asked,
-  descend-reads.Learnt,
-) (with-tables-at t) with-tables.Post
+with-tables-same-length : (t : ℕ) → with-tables-lts.Need-same-length (with-tables-calls t) (with-tables-at t) with-tables.Post
 with-tables-same-length t c = search needs
 
--- src/layers.rt:275:9
-with-tables-same-length-2 : (t : ℕ) → with-tables-lts.Need-same-length-2 (
-  with-tables-below t,
-  with-tables.Post,
-  end-all-reads.Asked,
-  end-all-reads.Learnt,
-  descend-reads.Asked,
-  descend-reads.Learnt,
-) (with-tables-at t) with-tables.Post
+with-tables-same-length-2 : (t : ℕ) → with-tables-lts.Need-same-length-2 (with-tables-calls t) (with-tables-at t) with-tables.Post
 with-tables-same-length-2 t c = search needs
 
--- src/layers.rt:275:9
-with-tables-same-length-3 : (t : ℕ) → with-tables-lts.Need-same-length-3 (
-  with-tables-below t,
-  with-tables.Post,
-  end-all-reads.Asked,
-  end-all-reads.Learnt,
-  descend-reads.Asked,
-  descend-reads.Learnt,
-) (with-tables-at t) with-tables.Post
+with-tables-same-length-3 : (t : ℕ) → with-tables-lts.Need-same-length-3 (with-tables-calls t) (with-tables-at t) with-tables.Post
 with-tables-same-length-3 t c = search needs
 
--- src/layers.rt:275:9
-with-tables-same-length-4 : (t : ℕ) → with-tables-lts.Need-same-length-4 (
-  with-tables-below t,
-  with-tables.Post,
-  end-all-reads.Asked,
-  end-all-reads.Learnt,
-  descend-reads.Asked,
-  descend-reads.Learnt,
-) (with-tables-at t) with-tables.Post
+with-tables-same-length-4 : (t : ℕ) → with-tables-lts.Need-same-length-4 (with-tables-calls t) (with-tables-at t) with-tables.Post
 with-tables-same-length-4 t c = search needs
 
--- src/layers.rt:275:9
-with-tables-returns : (t : ℕ) → with-tables-lts.Need-returns (
-  with-tables-below t,
-  with-tables.Post,
-  end-all-reads.Asked,
-  end-all-reads.Learnt,
-  descend-reads.Asked,
-  descend-reads.Learnt,
-) (with-tables-at t) with-tables.Post
+with-tables-returns : (t : ℕ) → with-tables-lts.Need-returns (with-tables-calls t) (with-tables-at t) with-tables.Post
 with-tables-returns t c = c .before .before .before .before .before .before .before .before .before .with-tables .ensures
 
--- src/layers.rt:278:36
-with-tables-slice-aggregate-with-tables-2 :
-    (t : ℕ) → with-tables-lts.Need-slice-aggregate-with-tables-2 (
-      with-tables-below t,
-      with-tables.Post,
-      end-all-reads.Asked,
-      end-all-reads.Learnt,
-      descend-reads.Asked,
-      descend-reads.Learnt,
-    ) (with-tables-at t) with-tables.Post
+with-tables-slice-aggregate-with-tables-2 : (t : ℕ) → with-tables-lts.Need-slice-aggregate-with-tables-2 (with-tables-calls t) (with-tables-at t) with-tables.Post
 with-tables-slice-aggregate-with-tables-2 t c = refl
 
--- src/layers.rt:278:9
-with-tables-with-tables-requires-2 : (t : ℕ) → with-tables-lts.Need-with-tables-requires-2 (
-  with-tables-below t,
-  with-tables.Post,
-  end-all-reads.Asked,
-  end-all-reads.Learnt,
-  descend-reads.Asked,
-  descend-reads.Learnt,
-) (with-tables-at t) with-tables.Post
-with-tables-with-tables-requires-2 t c κs = (omega (arith, c .before .before .before .before .before .before .before .before .before .before .before .before .before .before .pre .0), ((c .before .before .before .before .before .before .before .before .before .before .before .before .before .before .pre .1 .0 .0, omega arith), ((λ h. c .before .before .before .before .before .before .before .before .before .before .before .before .before .before .pre .1 .1 .0 (omega arith)), ((λ h. ready-none (half * (width * width)) (omega arith)), (λ h. absurd (omega arith))))))
+with-tables-with-tables-requires-2 : (t : ℕ) → with-tables-lts.Need-with-tables-requires-2 (with-tables-calls t) (with-tables-at t) with-tables.Post
+with-tables-with-tables-requires-2 t c κs =
+    let a = c .before .before .before .before .before .before .before .before .before .before .before .before .before .before in
+    (omega (arith, a .pre .0), ((a .pre .1 .0 .0, omega arith), ((λ h. a .pre .1 .1 .0 (omega arith)), ((λ h. ready-none (half * (width * width)) (omega arith)), (λ h. absurd (omega arith))))))
 
--- src/layers.rt:279:9
-with-tables-same-length-5 : (t : ℕ) → with-tables-lts.Need-same-length-5 (
-  with-tables-below t,
-  with-tables.Post,
-  end-all-reads.Asked,
-  end-all-reads.Learnt,
-  descend-reads.Asked,
-  descend-reads.Learnt,
-) (with-tables-at t) with-tables.Post
+with-tables-same-length-5 : (t : ℕ) → with-tables-lts.Need-same-length-5 (with-tables-calls t) (with-tables-at t) with-tables.Post
 with-tables-same-length-5 t c = search needs
 
--- src/layers.rt:279:9
-with-tables-same-length-6 : (t : ℕ) → with-tables-lts.Need-same-length-6 (
-  with-tables-below t,
-  with-tables.Post,
-  end-all-reads.Asked,
-  end-all-reads.Learnt,
-  descend-reads.Asked,
-  descend-reads.Learnt,
-) (with-tables-at t) with-tables.Post
+with-tables-same-length-6 : (t : ℕ) → with-tables-lts.Need-same-length-6 (with-tables-calls t) (with-tables-at t) with-tables.Post
 with-tables-same-length-6 t c = search needs
 
--- src/layers.rt:279:9
-with-tables-same-length-7 : (t : ℕ) → with-tables-lts.Need-same-length-7 (
-  with-tables-below t,
-  with-tables.Post,
-  end-all-reads.Asked,
-  end-all-reads.Learnt,
-  descend-reads.Asked,
-  descend-reads.Learnt,
-) (with-tables-at t) with-tables.Post
+with-tables-same-length-7 : (t : ℕ) → with-tables-lts.Need-same-length-7 (with-tables-calls t) (with-tables-at t) with-tables.Post
 with-tables-same-length-7 t c = search needs
 
--- src/layers.rt:279:9
-with-tables-same-length-8 : (t : ℕ) → with-tables-lts.Need-same-length-8 (
-  with-tables-below t,
-  with-tables.Post,
-  end-all-reads.Asked,
-  end-all-reads.Learnt,
-  descend-reads.Asked,
-  descend-reads.Learnt,
-) (with-tables-at t) with-tables.Post
+with-tables-same-length-8 : (t : ℕ) → with-tables-lts.Need-same-length-8 (with-tables-calls t) (with-tables-at t) with-tables.Post
 with-tables-same-length-8 t c = search needs
 
--- src/layers.rt:279:9
-with-tables-returns-2 : (t : ℕ) → with-tables-lts.Need-returns-2 (
-  with-tables-below t,
-  with-tables.Post,
-  end-all-reads.Asked,
-  end-all-reads.Learnt,
-  descend-reads.Asked,
-  descend-reads.Learnt,
-) (with-tables-at t) with-tables.Post
+with-tables-returns-2 : (t : ℕ) → with-tables-lts.Need-returns-2 (with-tables-calls t) (with-tables-at t) with-tables.Post
 with-tables-returns-2 t c = c .before .before .before .before .before .before .before .before .before .with-tables2 .ensures
 
--- src/layers.rt:282:42
-with-tables-slice-aggregate-with-tables-3 :
-    (t : ℕ) → with-tables-lts.Need-slice-aggregate-with-tables-3 (
-      with-tables-below t,
-      with-tables.Post,
-      end-all-reads.Asked,
-      end-all-reads.Learnt,
-      descend-reads.Asked,
-      descend-reads.Learnt,
-    ) (with-tables-at t) with-tables.Post
+with-tables-slice-aggregate-with-tables-3 : (t : ℕ) → with-tables-lts.Need-slice-aggregate-with-tables-3 (with-tables-calls t) (with-tables-at t) with-tables.Post
 with-tables-slice-aggregate-with-tables-3 t c = refl
 
--- src/layers.rt:282:9
-with-tables-with-tables-requires-3 : (t : ℕ) → with-tables-lts.Need-with-tables-requires-3 (
-  with-tables-below t,
-  with-tables.Post,
-  end-all-reads.Asked,
-  end-all-reads.Learnt,
-  descend-reads.Asked,
-  descend-reads.Learnt,
-) (with-tables-at t) with-tables.Post
-with-tables-with-tables-requires-3 t c κs = (omega (arith, c .before .before .before .before .before .before .before .before .before .before .before .before .before .before .before .pre .0), ((c .before .before .before .before .before .before .before .before .before .before .before .before .before .before .before .pre .1 .0 .0, omega arith), ((λ h. c .before .before .before .before .before .before .before .before .before .before .before .before .before .before .before .pre .1 .1 .0 (omega arith)), ((λ h. c .before .before .before .before .before .before .before .before .before .before .before .before .before .before .before .pre .1 .1 .1 .0 (omega arith)), (λ h. ready-none (half * (width * width)) (omega arith))))))
+with-tables-with-tables-requires-3 : (t : ℕ) → with-tables-lts.Need-with-tables-requires-3 (with-tables-calls t) (with-tables-at t) with-tables.Post
+with-tables-with-tables-requires-3 t c κs =
+    let a = c .before .before .before .before .before .before .before .before .before .before .before .before .before .before .before in
+    (omega (arith, a .pre .0), ((a .pre .1 .0 .0, omega arith), ((λ h. a .pre .1 .1 .0 (omega arith)), ((λ h. a .pre .1 .1 .1 .0 (omega arith)), (λ h. ready-none (half * (width * width)) (omega arith))))))
 
--- src/layers.rt:283:9
-with-tables-same-length-9 : (t : ℕ) → with-tables-lts.Need-same-length-9 (
-  with-tables-below t,
-  with-tables.Post,
-  end-all-reads.Asked,
-  end-all-reads.Learnt,
-  descend-reads.Asked,
-  descend-reads.Learnt,
-) (with-tables-at t) with-tables.Post
+with-tables-same-length-9 : (t : ℕ) → with-tables-lts.Need-same-length-9 (with-tables-calls t) (with-tables-at t) with-tables.Post
 with-tables-same-length-9 t c = search needs
 
--- src/layers.rt:283:9
-with-tables-same-length-10 : (t : ℕ) → with-tables-lts.Need-same-length-10 (
-  with-tables-below t,
-  with-tables.Post,
-  end-all-reads.Asked,
-  end-all-reads.Learnt,
-  descend-reads.Asked,
-  descend-reads.Learnt,
-) (with-tables-at t) with-tables.Post
+with-tables-same-length-10 : (t : ℕ) → with-tables-lts.Need-same-length-10 (with-tables-calls t) (with-tables-at t) with-tables.Post
 with-tables-same-length-10 t c = search needs
 
--- src/layers.rt:283:9
-with-tables-same-length-11 : (t : ℕ) → with-tables-lts.Need-same-length-11 (
-  with-tables-below t,
-  with-tables.Post,
-  end-all-reads.Asked,
-  end-all-reads.Learnt,
-  descend-reads.Asked,
-  descend-reads.Learnt,
-) (with-tables-at t) with-tables.Post
+with-tables-same-length-11 : (t : ℕ) → with-tables-lts.Need-same-length-11 (with-tables-calls t) (with-tables-at t) with-tables.Post
 with-tables-same-length-11 t c = search needs
 
--- src/layers.rt:283:9
-with-tables-same-length-12 : (t : ℕ) → with-tables-lts.Need-same-length-12 (
-  with-tables-below t,
-  with-tables.Post,
-  end-all-reads.Asked,
-  end-all-reads.Learnt,
-  descend-reads.Asked,
-  descend-reads.Learnt,
-) (with-tables-at t) with-tables.Post
+with-tables-same-length-12 : (t : ℕ) → with-tables-lts.Need-same-length-12 (with-tables-calls t) (with-tables-at t) with-tables.Post
 with-tables-same-length-12 t c = search needs
 
--- src/layers.rt:283:9
-with-tables-returns-3 : (t : ℕ) → with-tables-lts.Need-returns-3 (
-  with-tables-below t,
-  with-tables.Post,
-  end-all-reads.Asked,
-  end-all-reads.Learnt,
-  descend-reads.Asked,
-  descend-reads.Learnt,
-) (with-tables-at t) with-tables.Post
+with-tables-returns-3 : (t : ℕ) → with-tables-lts.Need-returns-3 (with-tables-calls t) (with-tables-at t) with-tables.Post
 with-tables-returns-3 t c = c .before .before .before .before .before .before .before .before .before .with-tables3 .ensures
 
--- src/layers.rt:285:5
-with-tables-end-all-requires : (t : ℕ) → with-tables-lts.Need-end-all-requires (
-  with-tables-below t,
-  with-tables.Post,
-  end-all-reads.Asked,
-  end-all-reads.Learnt,
-  descend-reads.Asked,
-  descend-reads.Learnt,
-) (with-tables-at t) with-tables.Post
-with-tables-end-all-requires t c κs = (c .before .before .before .before .before .before .before .before .before .before .before .before .pre .1 .0 .0 .loads, (c .before .before .before .before .before .before .before .before .before .before .before .before .pre .1 .1 .0 (let q = c .before .before .before .before .before .before .before .before .before .before .before .before .pre .1 .0 .1 in omega arith), c .before .before .before .before .before .before .before .before .before .before .before .before .pre .1 .1 .1 .0 (let q = c .before .before .before .before .before .before .before .before .before .before .before .before .pre .1 .0 .1 in omega arith)))
+with-tables-end-all-requires : (t : ℕ) → with-tables-lts.Need-end-all-requires (with-tables-calls t) (with-tables-at t) with-tables.Post
+with-tables-end-all-requires t c κs =
+    let a = c .before .before .before .before .before .before .before .before .before .before .before .before in
+    (a .pre .1 .0 .0 .loads, (a .pre .1 .1 .0 (let q = a .pre .1 .0 .1 in omega arith), a .pre .1 .1 .1 .0 (let q = a .pre .1 .0 .1 in omega arith)))
 
--- src/layers.rt:286:49
-with-tables-slice-aggregate-descend : (t : ℕ) → with-tables-lts.Need-slice-aggregate-descend (
-  with-tables-below t,
-  with-tables.Post,
-  end-all-reads.Asked,
-  end-all-reads.Learnt,
-  descend-reads.Asked,
-  descend-reads.Learnt,
-) (with-tables-at t) with-tables.Post
+with-tables-slice-aggregate-descend : (t : ℕ) → with-tables-lts.Need-slice-aggregate-descend (with-tables-calls t) (with-tables-at t) with-tables.Post
 with-tables-slice-aggregate-descend t c = refl
 
--- src/layers.rt:286:5
-with-tables-descend-requires : (t : ℕ) → with-tables-lts.Need-descend-requires (
-  with-tables-below t,
-  with-tables.Post,
-  end-all-reads.Asked,
-  end-all-reads.Learnt,
-  descend-reads.Asked,
-  descend-reads.Learnt,
-) (with-tables-at t) with-tables.Post
-with-tables-descend-requires t c κs = ((layers-ended (c .before .before .before .before .before .before .before .before .before .before .end-all .ensures) (c .before .before .before .before .before .before .before .before .before .before .before .before .before .before .before .before .before .before .before .before .before .before .before .pre .1 .0 .0), omega arith), (c .before .before .before .before .before .before .before .before .before .before .before .before .before .before .before .before .before .before .before .before .before .before .before .pre .1 .1 .1 .1 (let q = c .before .before .before .before .before .before .before .before .before .before .before .before .before .before .before .before .before .before .before .before .before .before .before .pre .1 .0 .1 in omega arith), ready-none (half * (width * width)) (omega arith)))
+with-tables-descend-requires : (t : ℕ) → with-tables-lts.Need-descend-requires (with-tables-calls t) (with-tables-at t) with-tables.Post
+with-tables-descend-requires t c κs =
+    let a = c .before .before .before .before .before .before .before .before .before .before .before .before .before .before .before .before .before .before .before .before .before .before .before in
+    ((layers-ended (c .before .before .before .before .before .before .before .before .before .before .end-all .ensures) (a .pre .1 .0 .0), omega arith), (a .pre .1 .1 .1 .1 (let q = a .pre .1 .0 .1 in omega arith), ready-none (half * (width * width)) (omega arith)))
 
--- src/layers.rt:259:1
-with-tables-same-length-13 : (t : ℕ) → with-tables-lts.Need-same-length-13 (
-  with-tables-below t,
-  with-tables.Post,
-  end-all-reads.Asked,
-  end-all-reads.Learnt,
-  descend-reads.Asked,
-  descend-reads.Learnt,
-) (with-tables-at t) with-tables.Post
+with-tables-same-length-13 : (t : ℕ) → with-tables-lts.Need-same-length-13 (with-tables-calls t) (with-tables-at t) with-tables.Post
 with-tables-same-length-13 t c = search needs
 
--- src/layers.rt:259:1
-with-tables-same-length-14 : (t : ℕ) → with-tables-lts.Need-same-length-14 (
-  with-tables-below t,
-  with-tables.Post,
-  end-all-reads.Asked,
-  end-all-reads.Learnt,
-  descend-reads.Asked,
-  descend-reads.Learnt,
-) (with-tables-at t) with-tables.Post
+with-tables-same-length-14 : (t : ℕ) → with-tables-lts.Need-same-length-14 (with-tables-calls t) (with-tables-at t) with-tables.Post
 with-tables-same-length-14 t c = search needs
 
--- src/layers.rt:259:1
-with-tables-same-length-15 : (t : ℕ) → with-tables-lts.Need-same-length-15 (
-  with-tables-below t,
-  with-tables.Post,
-  end-all-reads.Asked,
-  end-all-reads.Learnt,
-  descend-reads.Asked,
-  descend-reads.Learnt,
-) (with-tables-at t) with-tables.Post
+with-tables-same-length-15 : (t : ℕ) → with-tables-lts.Need-same-length-15 (with-tables-calls t) (with-tables-at t) with-tables.Post
 with-tables-same-length-15 t c = search needs
 
--- src/layers.rt:259:1
-with-tables-same-length-16 : (t : ℕ) → with-tables-lts.Need-same-length-16 (
-  with-tables-below t,
-  with-tables.Post,
-  end-all-reads.Asked,
-  end-all-reads.Learnt,
-  descend-reads.Asked,
-  descend-reads.Learnt,
-) (with-tables-at t) with-tables.Post
+with-tables-same-length-16 : (t : ℕ) → with-tables-lts.Need-same-length-16 (with-tables-calls t) (with-tables-at t) with-tables.Post
 with-tables-same-length-16 t c = search needs
 
--- src/layers.rt:259:1
-with-tables-same-length-17 : (t : ℕ) → with-tables-lts.Need-same-length-17 (
-  with-tables-below t,
-  with-tables.Post,
-  end-all-reads.Asked,
-  end-all-reads.Learnt,
-  descend-reads.Asked,
-  descend-reads.Learnt,
-) (with-tables-at t) with-tables.Post
+with-tables-same-length-17 : (t : ℕ) → with-tables-lts.Need-same-length-17 (with-tables-calls t) (with-tables-at t) with-tables.Post
 with-tables-same-length-17 t c = search needs
 
--- src/layers.rt:259:1
-with-tables-returns-4 : (t : ℕ) → with-tables-lts.Need-returns-4 (
-  with-tables-below t,
-  with-tables.Post,
-  end-all-reads.Asked,
-  end-all-reads.Learnt,
-  descend-reads.Asked,
-  descend-reads.Learnt,
-) (with-tables-at t) with-tables.Post
+with-tables-returns-4 : (t : ℕ) → with-tables-lts.Need-returns-4 (with-tables-calls t) (with-tables-at t) with-tables.Post
 with-tables-returns-4 t c = c .before .before .before .before .before .before .before .before .before .before .before .descend .ensures
 
 pub +with-tables-spec : {M : Type 1} → statement M
-+with-tables-spec = close μ-with-tables λ t. with-tables-lts.spec (
-  with-tables-below t,
-  with-tables.Post,
-  end-all-reads.Asked,
-  end-all-reads.Learnt,
-  descend-reads.Asked,
-  descend-reads.Learnt,
-)
-    (with-tables-at t)
-    with-tables.Post
++with-tables-spec = close μ-with-tables λ t. with-tables-lts.spec (with-tables-calls t) (with-tables-at t) with-tables.Post
     (with-tables-slice-aggregate-with-tables t)
     (with-tables-with-tables-requires t)
     (with-tables-same-length t)

@@ -5,8 +5,6 @@ use Prim.Native.Nat.{_-_}
 use Rattle.retimer.proofs.LayingLocations.{InClear, clear-begun, clear-inside, clear-next, clear-done}
 use Rattle.retimer.proofs.layers.clear.Statement.{statement}
 use Rattle.retimer.proofs.layers.clear.Tie as tie
-use Rattle.retimer.proofs.layers.clear.Reads as reads
-use Rattle.retimer.proofs.layers.clear.Lts as lts
 
 abbrev Inv-loop : tie.InvT-loop
 Inv-loop table₀ m c i₀ end table i = InClear m c i table₀ table
@@ -14,45 +12,35 @@ Inv-loop table₀ m c i₀ end table i = InClear m c i table₀ table
 abbrev μ-loop : tie.MeasureT-loop
 μ-loop table₀ m c i₀ end table i = end - i
 
--- src/layers.rt:112:17
-mul-i : tie.Need-mul-i Inv-loop μ-loop
-mul-i c = omega (arith, c .pre .0 .in-half)
+cell-requires : tie.Need-cell-requires Inv-loop μ-loop
+cell-requires c κs = (c .before .pre .0 .in-half, (omega arith, omega arith))
 
--- src/layers.rt:113:15
 add-end : tie.Need-add-end Inv-loop μ-loop
-add-end c = omega (arith, c .pre .0 .in-half)
+add-end c = omega (arith, c .before .before .pre .0 .in-half, c .cell .ensures)
 
--- src/layers.rt:114:5
 loop-holds : tie.Need-loop-holds Inv-loop μ-loop
-loop-holds c = clear-begun (c .pre .0) (c .pre .1) (omega arith)
+loop-holds c = clear-begun (c .before .before .pre .0) (c .before .before .pre .1) (c .cell .ensures)
 
--- src/layers.rt:115:9
 mul-table : tie.Need-mul-table Inv-loop μ-loop
-mul-table c = omega (arith, c .before .before .pre .0 .in-half)
+mul-table c = omega (arith, c .before .before .before .before .pre .0 .in-half, c .before .before .cell .ensures)
 
--- src/layers.rt:115:9
 slice-write-table : tie.Need-slice-write-table Inv-loop μ-loop
-slice-write-table c = clear-inside (c .before .before .pre .0) (c .before .before .pre .1) (c .before .loop .inv) (omega arith)
+slice-write-table c = clear-inside (c .before .before .before .before .pre .0) (c .before .before .before .before .pre .1) (c .before .loop .inv) (omega (arith, c .before .before .cell .ensures))
 
--- src/layers.rt:116:9
 add-i : tie.Need-add-i Inv-loop μ-loop
-add-i c = omega (arith, c .before .before .pre .0 .in-half)
+add-i c = omega (arith, c .before .before .before .before .pre .0 .in-half, c .before .before .cell .ensures)
 
--- src/layers.rt:114:5
 loop-less : tie.Need-loop-less Inv-loop μ-loop
 loop-less c = search needs
 
--- src/layers.rt:114:5
 loop-again : tie.Need-loop-again Inv-loop μ-loop
-loop-again c = clear-next (c .before .before .pre .0) (c .before .before .pre .1) (c .before .loop .inv) (omega arith)
+loop-again c = clear-next (c .before .before .before .before .pre .0) (c .before .before .before .before .pre .1) (c .before .loop .inv) (omega (arith, c .before .before .cell .ensures))
 
--- src/layers.rt:108:1
 same-length : tie.Need-same-length Inv-loop μ-loop
 same-length c = c .before .loop .inv .same-length
 
--- src/layers.rt:108:1
 returns : tie.Need-returns Inv-loop μ-loop
-returns c = clear-done (c .before .before .pre .0) (c .before .before .pre .1) (c .before .loop .inv) (omega arith)
+returns c = clear-done (c .before .before .before .before .pre .0) (c .before .before .before .before .pre .1) (c .before .loop .inv) (omega (arith, c .before .before .cell .ensures))
 
 pub clear-spec : {M : Type 1} → statement M
 clear-spec =
@@ -60,7 +48,7 @@ clear-spec =
     (tie.spec
     Inv-loop
     μ-loop
-    mul-i
+    cell-requires
     add-end
     loop-holds
     mul-table

@@ -7,12 +7,6 @@ use Rattle.enforcement.proofs.Loading.{header, pairs-fit}
 use Rattle.retimer.proofs.LayingLocations.{ready-cleared, gained-cleared, InLay, lay-begun, lay-inside, lay-fits, lay-ready, lay-next, lay-done}
 use Rattle.retimer.proofs.layers.lay.Statement.{statement}
 use Rattle.retimer.proofs.layers.lay.Tie as tie
-use Rattle.retimer.proofs.layers.lay.Reads as reads
-use Rattle.retimer.proofs.layers.lay.Lts as lts
-use Rattle.retimer.proofs.bytes.word_at.Reads as word-at-reads
-use Rattle.retimer.proofs.layers.clear.Reads as clear-reads
-use Rattle.retimer.proofs.layers.rule.Reads as rule-reads
-use Rattle.retimer.proofs.layers.ticks.Reads as ticks-reads
 
 abbrev Inv-loop : tie.InvT-loop
 Inv-loop s cs k l low high table₀ m pair p₀ end table p = InLay s cs k l m end table₀ table p
@@ -20,65 +14,78 @@ Inv-loop s cs k l low high table₀ m pair p₀ end table p = InLay s cs k l m e
 abbrev μ-loop : tie.MeasureT-loop
 μ-loop s cs k l low high table₀ m pair p₀ end table p = end - p
 
--- src/layers.rt:125:5
 clear-requires : tie.Need-clear-requires Inv-loop μ-loop
 clear-requires c κs = (c .before .before .before .before .before .before .pre .1 .1, omega arith)
 
--- src/layers.rt:126:20
 mul-pair : tie.Need-mul-pair Inv-loop μ-loop
-mul-pair c = let n = header (c .before .before .before .before .before .before .before .before .before .args .s .now) (c .before .before .before .before .before .before .before .before .before .pre .0 .loads) .locations-fit in omega (arith, c .before .before .before .before .before .before .before .before .before .pre .1 .0)
+mul-pair c =
+    let a = c .before .before .before .before .before .before .before .before .before in
+    let n = header (a .args .s .now) (a .pre .0 .loads) .locations-fit in
+    omega (arith, a .pre .1 .0)
 
--- src/layers.rt:126:16
 add-pair : tie.Need-add-pair Inv-loop μ-loop
-add-pair c = let n = header (c .before .before .before .before .before .before .before .before .before .args .s .now) (c .before .before .before .before .before .before .before .before .before .pre .0 .loads) .locations-fit in omega (arith, c .before .before .before .before .before .before .before .before .before .pre .1 .0)
+add-pair c =
+    let a = c .before .before .before .before .before .before .before .before .before in
+    let n = header (a .args .s .now) (a .pre .0 .loads) .locations-fit in
+    omega (arith, a .pre .1 .0)
 
--- src/layers.rt:127:9
 word-at-requires : tie.Need-word-at-requires Inv-loop μ-loop
-word-at-requires c κs = omega (arith, c .before .before .before .before .before .before .before .before .before .pre .1 .0, pairs-fit (c .before .before .before .before .before .before .before .before .before .args .s .now) (c .before .before .before .before .before .before .before .before .before .pre .0 .loads))
+word-at-requires c κs =
+    let a = c .before .before .before .before .before .before .before .before .before in
+    omega (arith, a .pre .1 .0, pairs-fit (a .args .s .now) (a .pre .0 .loads))
 
--- src/layers.rt:128:37
 add-word-at : tie.Need-add-word-at Inv-loop μ-loop
-add-word-at c = let n = header (c .before .before .before .before .before .before .before .before .before .before .args .s .now) (c .before .before .before .before .before .before .before .before .before .before .pre .0 .loads) .locations-fit in omega (arith, c .before .before .before .before .before .before .before .before .before .before .pre .1 .0)
+add-word-at c =
+    let a = c .before .before .before .before .before .before .before .before .before .before in
+    let n = header (a .args .s .now) (a .pre .0 .loads) .locations-fit in
+    omega (arith, a .pre .1 .0)
 
--- src/layers.rt:128:19
 word-at-requires-2 : tie.Need-word-at-requires-2 Inv-loop μ-loop
-word-at-requires-2 c κs = omega (arith, c .before .before .before .before .before .before .before .before .before .before .pre .1 .0, pairs-fit (c .before .before .before .before .before .before .before .before .before .before .args .s .now) (c .before .before .before .before .before .before .before .before .before .before .pre .0 .loads))
+word-at-requires-2 c κs =
+    let a = c .before .before .before .before .before .before .before .before .before .before in
+    omega (arith, a .pre .1 .0, pairs-fit (a .args .s .now) (a .pre .0 .loads))
 
--- src/layers.rt:128:15
 add-end : tie.Need-add-end Inv-loop μ-loop
 add-end c = omega (arith, c .before .word-at .ensures .1, c .word-at2 .ensures .1)
 
--- src/layers.rt:129:5
 loop-holds : tie.Need-loop-holds Inv-loop μ-loop
-loop-holds c = lay-begun (c .before .before .before .before .before .before .before .before .before .before .before .pre .0) (c .before .before .before .before .before .before .before .before .before .before .before .pre .1 .0) (ready-cleared (c .before .before .before .before .before .before .before .before .before .before .before .pre .1 .1) (c .before .before .before .before .clear .ensures)) (c .before .before .before .before .clear .ensures) (c .before .word-at .ensures .0) (c .word-at2 .ensures .0)
+loop-holds c =
+    let a = c .before .before .before .before .before .before .before .before .before .before .before in
+    lay-begun (a .pre .0) (a .pre .1 .0) (ready-cleared (a .pre .1 .1) (c .before .before .before .before .clear .ensures)) (c .before .before .before .before .clear .ensures) (c .before .word-at .ensures .0) (c .word-at2 .ensures .0)
 
--- src/layers.rt:130:9
 rule-requires : tie.Need-rule-requires Inv-loop μ-loop
-rule-requires c κs = (c .before .before .before .before .before .before .before .before .before .before .before .before .before .before .pre .0, ((lay-inside (c .before .before .before .before .before .before .before .before .before .before .before .before .before .before .pre .0) (c .before .before .before .before .before .before .before .before .before .before .before .before .before .before .pre .1 .0) (ready-cleared (c .before .before .before .before .before .before .before .before .before .before .before .before .before .before .pre .1 .1) (c .before .before .before .before .before .before .before .clear .ensures)) (c .before .before .loop .inv) (omega arith), lay-fits (c .before .before .before .before .before .before .before .before .before .before .before .before .before .before .pre .0) (c .before .before .before .before .before .before .before .before .before .before .before .before .before .before .pre .1 .0) (ready-cleared (c .before .before .before .before .before .before .before .before .before .before .before .before .before .before .pre .1 .1) (c .before .before .before .before .before .before .before .clear .ensures)) (c .before .before .loop .inv) (omega arith)), lay-ready (c .before .before .before .before .before .before .before .before .before .before .before .before .before .before .pre .0) (c .before .before .before .before .before .before .before .before .before .before .before .before .before .before .pre .1 .0) (ready-cleared (c .before .before .before .before .before .before .before .before .before .before .before .before .before .before .pre .1 .1) (c .before .before .before .before .before .before .before .clear .ensures)) (c .before .before .loop .inv)))
+rule-requires c κs =
+    let a = c .before .before .before .before .before .before .before .before .before .before .before .before .before .before in
+    let b = ready-cleared (a .pre .1 .1) (c .before .before .before .before .before .before .before .clear .ensures) in
+    let w = c .before .before .loop .inv in
+    (a .pre .0, ((lay-inside (a .pre .0) (a .pre .1 .0) b w (omega arith), lay-fits (a .pre .0) (a .pre .1 .0) b w (omega arith)), lay-ready (a .pre .0) (a .pre .1 .0) b w))
 
--- src/layers.rt:131:9
 add-p : tie.Need-add-p Inv-loop μ-loop
-add-p c = let i = lay-inside (c .before .before .before .before .before .before .before .before .before .before .before .before .before .before .before .before .before .pre .0) (c .before .before .before .before .before .before .before .before .before .before .before .before .before .before .before .before .before .pre .1 .0) (ready-cleared (c .before .before .before .before .before .before .before .before .before .before .before .before .before .before .before .before .before .pre .1 .1) (c .before .before .before .before .before .before .before .before .before .before .clear .ensures)) (c .before .before .before .before .before .loop .inv) (omega arith) in search needs
+add-p c =
+    let a = c .before .before .before .before .before .before .before .before .before .before .before .before .before .before .before .before .before in
+    let i = lay-inside (a .pre .0) (a .pre .1 .0) (ready-cleared (a .pre .1 .1) (c .before .before .before .before .before .before .before .before .before .before .clear .ensures)) (c .before .before .before .before .before .loop .inv) (omega arith) in
+    search needs
 
--- src/layers.rt:129:5
 loop-less : tie.Need-loop-less Inv-loop μ-loop
 loop-less c = search needs
 
--- src/layers.rt:129:5
 loop-again : tie.Need-loop-again Inv-loop μ-loop
-loop-again c = lay-next (c .before .before .before .before .before .before .before .before .before .before .before .before .before .before .before .before .before .pre .0) (c .before .before .before .before .before .before .before .before .before .before .before .before .before .before .before .before .before .pre .1 .0) (ready-cleared (c .before .before .before .before .before .before .before .before .before .before .before .before .before .before .before .before .before .pre .1 .1) (c .before .before .before .before .before .before .before .before .before .before .clear .ensures)) (c .before .before .before .before .before .loop .inv) (omega arith) (c .before .before .rule .ensures)
+loop-again c =
+    let a = c .before .before .before .before .before .before .before .before .before .before .before .before .before .before .before .before .before in
+    lay-next (a .pre .0) (a .pre .1 .0) (ready-cleared (a .pre .1 .1) (c .before .before .before .before .before .before .before .before .before .before .clear .ensures)) (c .before .before .before .before .before .loop .inv) (omega arith) (c .before .before .rule .ensures)
 
--- src/layers.rt:133:5
 ticks-requires : tie.Need-ticks-requires Inv-loop μ-loop
-ticks-requires c κs = lay-ready (c .before .before .before .before .before .before .before .before .before .before .before .before .before .before .pre .0) (c .before .before .before .before .before .before .before .before .before .before .before .before .before .before .pre .1 .0) (ready-cleared (c .before .before .before .before .before .before .before .before .before .before .before .before .before .before .pre .1 .1) (c .before .before .before .before .before .before .before .clear .ensures)) (c .before .before .loop .inv)
+ticks-requires c κs =
+    let a = c .before .before .before .before .before .before .before .before .before .before .before .before .before .before in
+    lay-ready (a .pre .0) (a .pre .1 .0) (ready-cleared (a .pre .1 .1) (c .before .before .before .before .before .before .before .clear .ensures)) (c .before .before .loop .inv)
 
--- src/layers.rt:121:1
 same-length : tie.Need-same-length Inv-loop μ-loop
 same-length c = c .before .before .ticks .ensures .others .same-length ∙ c .before .before .before .before .before .loop .inv .same-length ∙ c .before .before .before .before .before .before .before .before .before .before .clear .ensures .others .same-length
 
--- src/layers.rt:121:1
 returns : tie.Need-returns Inv-loop μ-loop
-returns c = gained-cleared (c .before .before .before .before .before .before .before .before .before .before .clear .ensures) (lay-done (c .before .before .before .before .before .before .before .before .before .before .before .before .before .before .before .before .before .pre .0) (c .before .before .before .before .before .before .before .before .before .before .before .before .before .before .before .before .before .pre .1 .0) (ready-cleared (c .before .before .before .before .before .before .before .before .before .before .before .before .before .before .before .before .before .pre .1 .1) (c .before .before .before .before .before .before .before .before .before .before .clear .ensures)) (c .before .before .before .before .before .loop .inv) (omega arith) (c .before .before .ticks .ensures))
+returns c =
+    let a = c .before .before .before .before .before .before .before .before .before .before .before .before .before .before .before .before .before in
+    gained-cleared (c .before .before .before .before .before .before .before .before .before .before .clear .ensures) (lay-done (a .pre .0) (a .pre .1 .0) (ready-cleared (a .pre .1 .1) (c .before .before .before .before .before .before .before .before .before .before .clear .ensures)) (c .before .before .before .before .before .loop .inv) (omega arith) (c .before .before .ticks .ensures))
 
 pub lay-spec : {M : Type 1} → statement M
 lay-spec =

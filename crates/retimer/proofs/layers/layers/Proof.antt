@@ -4,43 +4,31 @@ use native.Mathlib.Omega.{arith}
 use borrow.Author.Needs.{needs}
 use Rattle.retimer.proofs.layers.layers.Statement.{statement}
 use Rattle.retimer.proofs.layers.layers.Tie as tie
-use Rattle.retimer.proofs.layers.layers.Reads as reads
-use Rattle.retimer.proofs.layers.layers.Lts as lts
-use Rattle.retimer.proofs.layers.with_tables.Reads as with-tables-reads
 
--- src/layers.rt:369:8
 shared-slice-read-if1 : tie.Need-shared-slice-read-if1
 shared-slice-read-if1 c = omega (arith, pairs-fit (c .before .before .before .before .before .args .s .now) (c .before .before .before .before .before .pre .loads))
 
--- src/layers.rt:370:9
 returns : tie.Need-returns
 returns c = (c .before .before .before .before .before .before .pre, λ e. absurd (omega arith))
 
--- src/layers.rt:375:27
 slice-aggregate-with-tables : tie.Need-slice-aggregate-with-tables
 slice-aggregate-with-tables c = search needs
 
--- src/layers.rt:375:37
 slice-aggregate-with-tables-2 : tie.Need-slice-aggregate-with-tables-2
 slice-aggregate-with-tables-2 c = search needs
 
--- src/layers.rt:375:48
 slice-aggregate-with-tables-3 : tie.Need-slice-aggregate-with-tables-3
 slice-aggregate-with-tables-3 c = search needs
 
--- src/layers.rt:375:5
 with-tables-requires : tie.Need-with-tables-requires
 with-tables-requires c κs = ((c .before .before .before .before .before .before .before .before .before .before .before .pre, omega arith), (λ h. absurd (omega arith), (λ h. absurd (omega arith), λ h. absurd (omega arith))))
 
--- src/layers.rt:365:1
 same-length : tie.Need-same-length
 same-length c = search needs
 
--- src/layers.rt:365:1
 same-length-2 : tie.Need-same-length-2
 same-length-2 c = search needs
 
--- src/layers.rt:365:1
 returns-2 : tie.Need-returns-2
 returns-2 c = (c .before .before .before .before .before .before .before .with-tables .ensures .ground, λ e. c .before .before .before .before .before .before .before .with-tables .ensures .full)
 

@@ -7,9 +7,6 @@ use Prim.Native.Nat.{ℕ, _+_, _-_}
 use Rattle.retimer.proofs.LayingRows.{InLast, last-begun, last-done, last-inside, last-next}
 use Rattle.retimer.proofs.layers.tick_last.Statement.{statement}
 use Rattle.retimer.proofs.layers.tick_last.Tie as tie
-use Rattle.retimer.proofs.layers.tick_last.Reads as reads
-use Rattle.retimer.proofs.layers.tick_last.Lts as lts
-use Rattle.retimer.proofs.layers.lower.Reads as lower-reads
 
 abbrev Inv-loop : tie.InvT-loop
 Inv-loop table₀ here x₀ table x = InLast here x table₀ table
@@ -17,55 +14,44 @@ Inv-loop table₀ here x₀ table x = InLast here x table₀ table
 abbrev μ-loop : tie.MeasureT-loop
 μ-loop table₀ here x₀ table x = x
 
--- src/layers.rt:37:17
 sub-x : tie.Need-sub-x Inv-loop μ-loop
 sub-x c = search needs
 
--- src/layers.rt:38:5
 loop-holds : tie.Need-loop-holds Inv-loop μ-loop
 loop-holds c = last-begun (c .before .pre)
 
--- src/layers.rt:39:23
 add-v : tie.Need-add-v Inv-loop μ-loop
 add-v c = omega (arith, c .before .before .before .pre .inside, c .before .loop .inv .x-fits)
 
--- src/layers.rt:39:17
 mul-v : tie.Need-mul-v Inv-loop μ-loop
 mul-v c = omega (arith, c .before .before .before .pre .inside, c .before .loop .inv .x-fits)
 
--- src/layers.rt:39:17
 slice-read-v : tie.Need-slice-read-v Inv-loop μ-loop
 slice-read-v c = last-inside (c .before .before .before .before .pre) (c .before .before .loop .inv) (c .before .before .loop .x) (c .before .before .loop .inv .x-fits)
 
--- src/layers.rt:39:17
 add-v-2 : tie.Need-add-v-2 Inv-loop μ-loop
 add-v-2 c = omega (arith, c .before .before .loop .inv .small (c .before .before .before .before .args .here + c .before .before .loop .x))
 
--- src/layers.rt:40:9
 sub-x-2 : tie.Need-sub-x-2 Inv-loop μ-loop
 sub-x-2 c = search needs
 
--- src/layers.rt:41:22
 add-lower : tie.Need-add-lower Inv-loop μ-loop
 add-lower c = omega (arith, c .before .before .before .before .before .pre .inside, c .before .before .before .loop .inv .x-fits)
 
--- src/layers.rt:41:9
 lower-requires : tie.Need-lower-requires Inv-loop μ-loop
 lower-requires c κs = last-inside (c .before .before .before .before .before .pre) (c .before .before .before .loop .inv) (c .before .before .before .loop .x - 1) (omega (arith, c .before .before .before .loop .inv .x-fits))
 
--- src/layers.rt:38:5
 loop-less : tie.Need-loop-less Inv-loop μ-loop
 loop-less c = search needs
 
--- src/layers.rt:38:5
 loop-again : tie.Need-loop-again Inv-loop μ-loop
-loop-again c = subst⁻¹ (λ (t : List ℕ). InLast (c .before .before .before .before .before .before .before .before .args .here) (c .before .before .before .before .before .before .loop .x - 1) (c .before .before .before .before .before .before .before .before .args .table .now) t) (c .before .before .lower .ensures) (last-next (c .before .before .before .before .before .before .before .before .pre) (c .before .before .before .before .before .before .loop .inv) (omega arith) refl)
+loop-again c =
+    let a = c .before .before .before .before .before .before .before .before in
+    subst⁻¹ (λ (t : List ℕ). InLast (a .args .here) (c .before .before .before .before .before .before .loop .x - 1) (a .args .table .now) t) (c .before .before .lower .ensures) (last-next (a .pre) (c .before .before .before .before .before .before .loop .inv) (omega arith) refl)
 
--- src/layers.rt:33:1
 same-length : tie.Need-same-length Inv-loop μ-loop
 same-length c = c .before .loop .inv .same-length
 
--- src/layers.rt:33:1
 returns : tie.Need-returns Inv-loop μ-loop
 returns c = last-done (c .before .before .before .pre) (c .before .loop .inv) (omega arith)
 

@@ -5,9 +5,6 @@ use Rattle.retimer.proofs.LayingRows.{InTicks, ticks-begun, ticks-done,
 use mathlib.Core.Path.{refl}
 use Rattle.retimer.proofs.layers.ticks.Statement.{statement}
 use Rattle.retimer.proofs.layers.ticks.Tie as tie
-use Rattle.retimer.proofs.layers.ticks.Reads as reads
-use Rattle.retimer.proofs.layers.ticks.Lts as lts
-use Rattle.retimer.proofs.layers.tick_at.Reads as tick-at-reads
 
 abbrev Inv-loop : tie.InvT-loop
 Inv-loop table₀ m y₀ table y = InTicks m y table₀ table
@@ -15,31 +12,24 @@ Inv-loop table₀ m y₀ table y = InTicks m y table₀ table
 abbrev μ-loop : tie.MeasureT-loop
 μ-loop table₀ m y₀ table y = y
 
--- src/layers.rt:80:5
 loop-holds : tie.Need-loop-holds Inv-loop μ-loop
 loop-holds c = ticks-begun (c .before .pre)
 
--- src/layers.rt:81:9
 sub-y : tie.Need-sub-y Inv-loop μ-loop
 sub-y c = search needs
 
--- src/layers.rt:82:9
 tick-at-requires : tie.Need-tick-at-requires Inv-loop μ-loop
 tick-at-requires c κs = (ticks-ready (c .before .before .before .before .pre) (c .before .before .loop .inv), omega (arith, c .before .before .loop .inv .y-fits))
 
--- src/layers.rt:80:5
 loop-less : tie.Need-loop-less Inv-loop μ-loop
 loop-less c = search needs
 
--- src/layers.rt:80:5
 loop-again : tie.Need-loop-again Inv-loop μ-loop
 loop-again c = ticks-next (c .before .before .before .before .before .before .before .pre) (c .before .before .before .before .before .loop .inv) refl refl (omega arith) (c .before .before .tick-at .ensures)
 
--- src/layers.rt:75:1
 same-length : tie.Need-same-length Inv-loop μ-loop
 same-length c = c .before .loop .inv .same-length
 
--- src/layers.rt:75:1
 returns : tie.Need-returns Inv-loop μ-loop
 returns c = ticks-done (c .before .before .before .pre) (c .before .loop .inv) (omega arith)
 

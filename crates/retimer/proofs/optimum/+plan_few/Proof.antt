@@ -32,7 +32,9 @@ plan-few-slice-aggregate-solve : (t : ℕ) → plan-few-lts.Need-slice-aggregate
 plan-few-slice-aggregate-solve t c = search needs
 
 plan-few-solve-requires : (t : ℕ) → plan-few-lts.Need-solve-requires (plan-few-calls t) (plan-few-at t) plan-few.Post
-plan-few-solve-requires t c κs = (c .before .before .before .before .before .before .before .before .pre .1 .0, (c .before .before .before .before .before .before .before .before .pre .1 .1 .1 (c .before .before .before .if1 .taken), known-none (c .before .before .before .before .before .before .before .before .args .s .now) (c .before .before .before .before .before .before .before .before .args .cs .now) true (placesFor fewActions) (omega (arith, c .before .before .before .before .before .before .before .before .pre .1 .1 .0))))
+plan-few-solve-requires t c κs =
+    let a = c .before .before .before .before .before .before .before .before in
+    (a .pre .1 .0, (a .pre .1 .1 .1 (c .before .before .before .if1 .taken), known-none (a .args .s .now) (a .args .cs .now) true (placesFor fewActions) (omega (arith, a .pre .1 .1 .0))))
 
 plan-few-same-length : (t : ℕ) → plan-few-lts.Need-same-length (plan-few-calls t) (plan-few-at t) plan-few.Post
 plan-few-same-length t c = search needs
@@ -47,7 +49,9 @@ plan-few-slice-aggregate-plan-few : (t : ℕ) → plan-few-lts.Need-slice-aggreg
 plan-few-slice-aggregate-plan-few t c = search needs
 
 plan-few-plan-few-requires : (t : ℕ) → plan-few-lts.Need-plan-few-requires (plan-few-calls t) (plan-few-at t) plan-few.Post
-plan-few-plan-few-requires t c κs = (omega (arith, c .before .before .before .before .before .before .before .pre .0, ap {B = ℕ} (λ (b : Bool). cond b 0 1) (c .before .before .if1 .left)), (c .before .before .before .before .before .before .before .pre .1 .0, (c .before .before .before .before .before .before .before .pre .1 .1 .0, λ e. known-none (c .before .before .before .before .before .before .before .args .s .now) (c .before .before .before .before .before .before .before .args .cs .now) false (placesFor fewActions) (omega (arith, c .before .before .before .before .before .before .before .pre .1 .1 .0)))))
+plan-few-plan-few-requires t c κs =
+    let a = c .before .before .before .before .before .before .before in
+    (omega (arith, a .pre .0, ap {B = ℕ} (λ (b : Bool). cond b 0 1) (c .before .before .if1 .left)), (a .pre .1 .0, (a .pre .1 .1 .0, λ e. known-none (a .args .s .now) (a .args .cs .now) false (placesFor fewActions) (omega (arith, a .pre .1 .1 .0)))))
 
 plan-few-same-length-3 : (t : ℕ) → plan-few-lts.Need-same-length-3 (plan-few-calls t) (plan-few-at t) plan-few.Post
 plan-few-same-length-3 t c = search needs

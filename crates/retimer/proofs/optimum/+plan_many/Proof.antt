@@ -3,11 +3,10 @@ use borrow.Author.Needs.{needs}
 use native.Mathlib.Omega.{arith}
 use mathlib.Core.Path.{ap}
 use mathlib.Core.Bool.{Bool, true, false, cond}
-use Prim.Native.Nat.{_+_}
+use Prim.Native.Nat.{ℕ, _+_, _<_}
 use Rattle.enforcement.specs.Limits.{maxCount}
 use Rattle.retimer.specs.Costs.{placesFor}
 use Rattle.retimer.proofs.Memos.{known-none}
-use Prim.Native.Nat.{ℕ, _<_}
 use borrow.Fn.Kinds.{In}
 use borrow.Fn.PlainCycle.{Measures, is, falls, and}
 use Rattle.retimer.proofs.optimum.plan_many.Reads as plan-many
@@ -28,138 +27,48 @@ abbrev plan-many-below : ℕ → In 3 plan-many-kinds.ps
 plan-many-below t =
     and 3 plan-many-kinds.ps (falls 3 plan-many-kinds.ps _<_ μ-plan-many t) plan-many.Pre
 
--- src/optimum.rt:206:38
-plan-many-slice-aggregate-layers : (t : ℕ) → plan-many-lts.Need-slice-aggregate-layers (
-  layers-reads.Asked,
-  layers-reads.Learnt,
-  solve-reads.Asked,
-  solve-reads.Learnt,
-  plan-many-below t,
-  plan-many.Post,
-) (plan-many-at t) plan-many.Post
+abbrev plan-many-calls : ℕ → plan-many-lts.Claims
+plan-many-calls t = (layers-reads.Asked, layers-reads.Learnt, solve-reads.Asked, solve-reads.Learnt, plan-many-below t, plan-many.Post)
+
+plan-many-slice-aggregate-layers : (t : ℕ) → plan-many-lts.Need-slice-aggregate-layers (plan-many-calls t) (plan-many-at t) plan-many.Post
 plan-many-slice-aggregate-layers t c = search needs
 
--- src/optimum.rt:206:9
-plan-many-layers-requires : (t : ℕ) → plan-many-lts.Need-layers-requires (
-  layers-reads.Asked,
-  layers-reads.Learnt,
-  solve-reads.Asked,
-  solve-reads.Learnt,
-  plan-many-below t,
-  plan-many.Post,
-) (plan-many-at t) plan-many.Post
-plan-many-layers-requires t c κs = record { loads = c .before .before .before .before .before .before .before .pre .1 .0 .loads; few = c .before .before .before .before .before .before .before .pre .1 .0 .few; after-first = c .before .before .before .before .before .before .before .pre .1 .1 (c .before .before .if1 .taken); after-second = known-none (c .before .before .before .before .before .before .before .args .s .now) (c .before .before .before .before .before .before .before .args .cs .now) true (placesFor (maxCount + 1)) (omega (arith, c .before .before .before .before .before .before .before .pre .1 .0 .few)) }
+plan-many-layers-requires : (t : ℕ) → plan-many-lts.Need-layers-requires (plan-many-calls t) (plan-many-at t) plan-many.Post
+plan-many-layers-requires t c κs =
+    let a = c .before .before .before .before .before .before .before in
+    record { loads = a .pre .1 .0 .loads; few = a .pre .1 .0 .few; after-first = a .pre .1 .1 (c .before .before .if1 .taken); after-second = known-none (a .args .s .now) (a .args .cs .now) true (placesFor (maxCount + 1)) (omega (arith, a .pre .1 .0 .few)) }
 
--- src/optimum.rt:207:50
-plan-many-slice-aggregate-solve : (t : ℕ) → plan-many-lts.Need-slice-aggregate-solve (
-  layers-reads.Asked,
-  layers-reads.Learnt,
-  solve-reads.Asked,
-  solve-reads.Learnt,
-  plan-many-below t,
-  plan-many.Post,
-) (plan-many-at t) plan-many.Post
+plan-many-slice-aggregate-solve : (t : ℕ) → plan-many-lts.Need-slice-aggregate-solve (plan-many-calls t) (plan-many-at t) plan-many.Post
 plan-many-slice-aggregate-solve t c = search needs
 
--- src/optimum.rt:207:9
-plan-many-solve-requires : (t : ℕ) → plan-many-lts.Need-solve-requires (
-  layers-reads.Asked,
-  layers-reads.Learnt,
-  solve-reads.Asked,
-  solve-reads.Learnt,
-  plan-many-below t,
-  plan-many.Post,
-) (plan-many-at t) plan-many.Post
+plan-many-solve-requires : (t : ℕ) → plan-many-lts.Need-solve-requires (plan-many-calls t) (plan-many-at t) plan-many.Post
 plan-many-solve-requires t c κs = (c .before .before .before .before .before .before .before .before .before .before .before .before .before .before .pre .1 .0, (c .before .before .before .before .before .before .layers .ensures .0 .after-first, c .before .before .before .before .before .before .layers .ensures .0 .after-second))
 
--- src/optimum.rt:207:9
-plan-many-same-length : (t : ℕ) → plan-many-lts.Need-same-length (
-  layers-reads.Asked,
-  layers-reads.Learnt,
-  solve-reads.Asked,
-  solve-reads.Learnt,
-  plan-many-below t,
-  plan-many.Post,
-) (plan-many-at t) plan-many.Post
+plan-many-same-length : (t : ℕ) → plan-many-lts.Need-same-length (plan-many-calls t) (plan-many-at t) plan-many.Post
 plan-many-same-length t c = search needs
 
--- src/optimum.rt:207:9
-plan-many-same-length-2 : (t : ℕ) → plan-many-lts.Need-same-length-2 (
-  layers-reads.Asked,
-  layers-reads.Learnt,
-  solve-reads.Asked,
-  solve-reads.Learnt,
-  plan-many-below t,
-  plan-many.Post,
-) (plan-many-at t) plan-many.Post
+plan-many-same-length-2 : (t : ℕ) → plan-many-lts.Need-same-length-2 (plan-many-calls t) (plan-many-at t) plan-many.Post
 plan-many-same-length-2 t c = search needs
 
--- src/optimum.rt:207:9
-plan-many-returns : (t : ℕ) → plan-many-lts.Need-returns (
-  layers-reads.Asked,
-  layers-reads.Learnt,
-  solve-reads.Asked,
-  solve-reads.Learnt,
-  plan-many-below t,
-  plan-many.Post,
-) (plan-many-at t) plan-many.Post
+plan-many-returns : (t : ℕ) → plan-many-lts.Need-returns (plan-many-calls t) (plan-many-at t) plan-many.Post
 plan-many-returns t c = c .before .before .before .before .before .solve .ensures
 
--- src/optimum.rt:209:36
-plan-many-slice-aggregate-plan-many : (t : ℕ) → plan-many-lts.Need-slice-aggregate-plan-many (
-  layers-reads.Asked,
-  layers-reads.Learnt,
-  solve-reads.Asked,
-  solve-reads.Learnt,
-  plan-many-below t,
-  plan-many.Post,
-) (plan-many-at t) plan-many.Post
+plan-many-slice-aggregate-plan-many : (t : ℕ) → plan-many-lts.Need-slice-aggregate-plan-many (plan-many-calls t) (plan-many-at t) plan-many.Post
 plan-many-slice-aggregate-plan-many t c = search needs
 
--- src/optimum.rt:209:5
-plan-many-plan-many-requires : (t : ℕ) → plan-many-lts.Need-plan-many-requires (
-  layers-reads.Asked,
-  layers-reads.Learnt,
-  solve-reads.Asked,
-  solve-reads.Learnt,
-  plan-many-below t,
-  plan-many.Post,
-) (plan-many-at t) plan-many.Post
-plan-many-plan-many-requires t c κs = (omega (arith, c .before .before .before .before .before .before .before .pre .0, ap {B = ℕ} (λ (b : Bool). cond b 0 1) (c .before .before .if1 .left)), (c .before .before .before .before .before .before .before .pre .1 .0, λ e. known-none (c .before .before .before .before .before .before .before .args .s .now) (c .before .before .before .before .before .before .before .args .cs .now) false (placesFor (maxCount + 1)) (omega (arith, c .before .before .before .before .before .before .before .pre .1 .0 .few))))
+plan-many-plan-many-requires : (t : ℕ) → plan-many-lts.Need-plan-many-requires (plan-many-calls t) (plan-many-at t) plan-many.Post
+plan-many-plan-many-requires t c κs =
+    let a = c .before .before .before .before .before .before .before in
+    (omega (arith, a .pre .0, ap {B = ℕ} (λ (b : Bool). cond b 0 1) (c .before .before .if1 .left)), (a .pre .1 .0, λ e. known-none (a .args .s .now) (a .args .cs .now) false (placesFor (maxCount + 1)) (omega (arith, a .pre .1 .0 .few))))
 
--- src/optimum.rt:191:1
-plan-many-same-length-3 : (t : ℕ) → plan-many-lts.Need-same-length-3 (
-  layers-reads.Asked,
-  layers-reads.Learnt,
-  solve-reads.Asked,
-  solve-reads.Learnt,
-  plan-many-below t,
-  plan-many.Post,
-) (plan-many-at t) plan-many.Post
+plan-many-same-length-3 : (t : ℕ) → plan-many-lts.Need-same-length-3 (plan-many-calls t) (plan-many-at t) plan-many.Post
 plan-many-same-length-3 t c = search needs
 
--- src/optimum.rt:191:1
-plan-many-returns-2 : (t : ℕ) → plan-many-lts.Need-returns-2 (
-  layers-reads.Asked,
-  layers-reads.Learnt,
-  solve-reads.Asked,
-  solve-reads.Learnt,
-  plan-many-below t,
-  plan-many.Post,
-) (plan-many-at t) plan-many.Post
+plan-many-returns-2 : (t : ℕ) → plan-many-lts.Need-returns-2 (plan-many-calls t) (plan-many-at t) plan-many.Post
 plan-many-returns-2 t c = c .before .before .before .plan-many .ensures
 
 pub +plan-many-spec : {M : Type 1} → statement M
-+plan-many-spec = close μ-plan-many λ t. plan-many-lts.spec (
-  layers-reads.Asked,
-  layers-reads.Learnt,
-  solve-reads.Asked,
-  solve-reads.Learnt,
-  plan-many-below t,
-  plan-many.Post,
-)
-    (plan-many-at t)
-    plan-many.Post
++plan-many-spec = close μ-plan-many λ t. plan-many-lts.spec (plan-many-calls t) (plan-many-at t) plan-many.Post
     (plan-many-slice-aggregate-layers t)
     (plan-many-layers-requires t)
     (plan-many-slice-aggregate-solve t)

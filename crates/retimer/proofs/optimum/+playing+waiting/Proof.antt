@@ -58,7 +58,10 @@ playing-add-waiting :
 playing-add-waiting t c = omega (arith, c .before .before .before .before .before .pre .1 .1)
 
 playing-waiting-requires : (t : ℕ) → playing-lts.Need-waiting-requires (playing-calls t) (playing-at t) playing.Post
-playing-waiting-requires t c κs = let g = c .before .before .before .before .before .before .before .before .pre .1 .0 in (omega (arith, rank-play (length (c .before .before .before .before .before .before .before .before .args .cs .now)) (c .before .before .before .before .before .before .before .before .args .k) (c .before .before .before .before .before .before .before .before .args .r) (c .before .before .before .before .before .before .before .before .pre .1 .1), c .before .before .before .before .before .before .before .before .pre .0), record { ground = g .ground; played = g .played; standing = g .standing; least = g .least; early = g .early; room = simp length-set (g .room) })
+playing-waiting-requires t c κs =
+    let a = c .before .before .before .before .before .before .before .before in
+    let g = a .pre .1 .0 in
+    (omega (arith, rank-play (length (a .args .cs .now)) (a .args .k) (a .args .r) (a .pre .1 .1), a .pre .0), record { ground = g .ground; played = g .played; standing = g .standing; least = g .least; early = g .early; room = simp length-set (g .room) })
 
 playing-same-length :
     (t : ℕ) →
@@ -80,13 +83,18 @@ playing-returns :
 playing-returns t c = c .before .before .before .before .before .before .waiting .ensures
 
 waiting-returns : (t : ℕ) → waiting-lts.Need-returns (waiting-calls t) (waiting-at t) waiting.Post
-waiting-returns t c = written-end (c .before .before .before .before .before .before .args .s .now) (c .before .before .before .before .before .before .args .cs .now) (c .before .before .before .before .before .before .args .k) (c .before .before .before .before .before .before .args .l) (c .before .before .before .before .before .before .args .r) (c .before .before .before .before .before .before .args .t) (c .before .before .before .before .before .before .args .out .now) (c .if1 .taken) (c .before .before .before .before .before .before .pre .1 .standing)
+waiting-returns t c =
+    let a = c .before .before .before .before .before .before in
+    written-end (a .args .s .now) (a .args .cs .now) (a .args .k) (a .args .l) (a .args .r) (a .args .t) (a .args .out .now) (c .if1 .taken) (a .pre .1 .standing)
 
 waiting-look-requires : (t : ℕ) → waiting-lts.Need-look-requires (waiting-calls t) (waiting-at t) waiting.Post
 waiting-look-requires t c κs = let g = c .before .before .before .before .before .before .before .before .pre .1 in (g .ground, (dating-more g (c .before .before .if1 .left), g .standing))
 
 waiting-playing-requires : (t : ℕ) → waiting-lts.Need-playing-requires (waiting-calls t) (waiting-at t) waiting.Post
-waiting-playing-requires t c κs = let g = c .before .before .before .before .before .before .before .before .before .before .before .before .before .before .before .before .before .before .before .pre .1 in (omega (arith, c .before .before .before .before .before .before .before .before .before .before .before .before .before .before .before .before .before .before .before .pre .0), (dating-played g (c .before .before .before .before .before .before .before .before .before .before .before .before .before .if1 .left) (c .before .before .before .before .before .before .before .before .before .before .look .ensures) (c .before .before .before .if2 .taken), dating-more g (c .before .before .before .before .before .before .before .before .before .before .before .before .before .if1 .left)))
+waiting-playing-requires t c κs =
+    let a = c .before .before .before .before .before .before .before .before .before .before .before .before .before .before .before .before .before .before .before in
+    let g = a .pre .1 in
+    (omega (arith, a .pre .0), (dating-played g (c .before .before .before .before .before .before .before .before .before .before .before .before .before .if1 .left) (c .before .before .before .before .before .before .before .before .before .before .look .ensures) (c .before .before .before .if2 .taken), dating-more g (c .before .before .before .before .before .before .before .before .before .before .before .before .before .if1 .left)))
 
 waiting-same-length : (t : ℕ) → waiting-lts.Need-same-length (waiting-calls t) (waiting-at t) waiting.Post
 waiting-same-length t c = search needs
@@ -110,7 +118,11 @@ waiting-sub-waiting : (t : ℕ) → waiting-lts.Need-sub-waiting (waiting-calls 
 waiting-sub-waiting t c = let g = c .before .before .before .before .before .before .before .before .before .before .before .before .before .before .before .before .before .pre .1 in dating-ticks g (c .before .before .before .before .before .before .before .before .before .before .before .if1 .left) (c .before .before .before .before .before .before .before .before .look .ensures) (c .before .if2 .left) (c .wait .ensures .0)
 
 waiting-waiting-requires : (t : ℕ) → waiting-lts.Need-waiting-requires (waiting-calls t) (waiting-at t) waiting.Post
-waiting-waiting-requires t c κs = let g = c .before .before .before .before .before .before .before .before .before .before .before .before .before .before .before .before .before .before .before .before .pre .1 in let e = c .before .before .before .wait .ensures .0 in (omega (arith, rank-wait (length (c .before .before .before .before .before .before .before .before .before .before .before .before .before .before .before .before .before .before .before .before .args .cs .now)) (c .before .before .before .before .before .before .before .before .before .before .before .before .before .before .before .before .before .before .before .before .args .k) (c .before .before .before .before .before .before .before .before .before .before .before .before .before .before .before .before .before .before .before .before .args .r) (c .before .before .before .wait .result) (g .standing .readings) e (dating-below g (c .before .before .before .before .before .before .before .before .before .before .before .before .before .before .if1 .left) (c .before .before .before .before .before .before .before .before .before .before .before .look .ensures) (c .before .before .before .before .if2 .left) e), c .before .before .before .before .before .before .before .before .before .before .before .before .before .before .before .before .before .before .before .before .pre .0), dating-waited g (c .before .before .before .before .before .before .before .before .before .before .before .before .before .before .if1 .left) (c .before .before .before .before .before .before .before .before .before .before .before .look .ensures) (c .before .before .before .before .if2 .left) e)
+waiting-waiting-requires t c κs =
+    let a = c .before .before .before .before .before .before .before .before .before .before .before .before .before .before .before .before .before .before .before .before in
+    let g = a .pre .1 in
+    let e = c .before .before .before .wait .ensures .0 in
+    (omega (arith, rank-wait (length (a .args .cs .now)) (a .args .k) (a .args .r) (c .before .before .before .wait .result) (g .standing .readings) e (dating-below g (c .before .before .before .before .before .before .before .before .before .before .before .before .before .before .if1 .left) (c .before .before .before .before .before .before .before .before .before .before .before .look .ensures) (c .before .before .before .before .if2 .left) e), a .pre .0), dating-waited g (c .before .before .before .before .before .before .before .before .before .before .before .before .before .before .if1 .left) (c .before .before .before .before .before .before .before .before .before .before .before .look .ensures) (c .before .before .before .before .if2 .left) e)
 
 waiting-same-length-4 : (t : ℕ) → waiting-lts.Need-same-length-4 (waiting-calls t) (waiting-at t) waiting.Post
 waiting-same-length-4 t c = search needs

@@ -13,7 +13,9 @@ step-requires : tie.Need-step-requires
 step-requires c κs = search needs
 
 returns : tie.Need-returns
-returns c = ahead-none (c .before .before .before .before .before .before .before .before .before .args .s .now) (c .before .before .before .before .before .before .before .before .before .args .cs .now) (c .before .before .before .before .before .before .before .before .before .args .k) (c .before .before .before .before .before .before .before .before .before .args .l) (c .before .before .before .before .before .before .before .before .before .args .r) (c .before .before .before .step .result) (c .before .before .before .step .ensures) (c .before .before .before .before .before .before .before .before .before .pre .0) (not-true _ (c .if1 .taken))
+returns c =
+    let a = c .before .before .before .before .before .before .before .before .before in
+    ahead-none (a .args .s .now) (a .args .cs .now) (a .args .k) (a .args .l) (a .args .r) (c .before .before .before .step .result) (c .before .before .before .step .ensures) (a .pre .0) (not-true _ (c .if1 .taken))
 
 add-cost : tie.Need-add-cost
 add-cost c = search needs
@@ -28,7 +30,9 @@ same-length-2 : tie.Need-same-length-2
 same-length-2 c = search needs
 
 returns-2 : tie.Need-returns-2
-returns-2 c = ahead-some (c .before .before .before .before .before .before .before .before .before .before .before .before .before .before .before .before .args .s .now) (c .before .before .before .before .before .before .before .before .before .before .before .before .before .before .before .before .args .cs .now) (c .before .before .before .before .before .before .before .before .before .before .before .before .before .before .before .before .args .k) (c .before .before .before .before .before .before .before .before .before .before .before .before .before .before .before .before .args .l) (c .before .before .before .before .before .before .before .before .before .before .before .before .before .before .before .before .args .r) (c .before .before .before .before .before .before .before .before .before .before .step .result) (c .before .before .before .before .before .before .before .before .before .before .step .ensures) (c .before .before .before .before .cost .ensures) (not-false _ (c .before .before .before .before .before .before .before .if1 .left))
+returns-2 c =
+    let a = c .before .before .before .before .before .before .before .before .before .before .before .before .before .before .before .before in
+    ahead-some (a .args .s .now) (a .args .cs .now) (a .args .k) (a .args .l) (a .args .r) (c .before .before .before .before .before .before .before .before .before .before .step .result) (c .before .before .before .before .before .before .before .before .before .before .step .ensures) (c .before .before .before .before .cost .ensures) (not-false _ (c .before .before .before .before .before .before .before .if1 .left))
 
 pub look-spec : {M : Type 1} → statement M
 look-spec =

@@ -4,39 +4,30 @@ use Rattle.retimer.proofs.Intervals.{end-built}
 use Rattle.retimer.proofs.waits.end_wait.Statement.{statement}
 use Rattle.retimer.proofs.waits.end_wait.Tie as tie
 
--- src/waits.rt:61:9
 saturation-requires : tie.Need-saturation-requires
 saturation-requires c κs = search needs
 
--- src/waits.rt:62:20
 add-ends : tie.Need-add-ends
 add-ends c = search needs
 
--- src/waits.rt:62:18
 shared-slice-read-ends : tie.Need-shared-slice-read-ends
 shared-slice-read-ends c = search needs
 
--- src/waits.rt:62:13
 ends-requires : tie.Need-ends-requires
 ends-requires c κs = search needs
 
--- src/waits.rt:62:44
 add-ends-2 : tie.Need-add-ends-2
 add-ends-2 c = search needs
 
--- src/waits.rt:62:42
 shared-slice-read-ends-2 : tie.Need-shared-slice-read-ends-2
 shared-slice-read-ends-2 c = search needs
 
--- src/waits.rt:62:37
 ends-requires-2 : tie.Need-ends-requires-2
 ends-requires-2 c κs = search needs
 
--- src/waits.rt:62:5
 smaller-requires : tie.Need-smaller-requires
 smaller-requires c κs = search needs
 
--- src/waits.rt:57:1
 returns : tie.Need-returns
 returns c = end-built _ _ _ _ _ _ _ (c .before .before .before .before .before .saturation .ensures) (c .before .before .before .ends .ensures) (c .before .ends2 .ensures) (c .smaller .ensures)
 

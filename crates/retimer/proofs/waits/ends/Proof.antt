@@ -5,20 +5,16 @@ use Rattle.retimer.specs.Waits.{endOf}
 use Rattle.retimer.proofs.waits.ends.Statement.{statement}
 use Rattle.retimer.proofs.waits.ends.Tie as tie
 
--- src/waits.rt:35:9
 returns : tie.Need-returns
 unfolding endOf
 returns c = omega arith
 
--- src/waits.rt:37:5
 smaller-requires : tie.Need-smaller-requires
 smaller-requires c κs = search needs
 
--- src/waits.rt:37:5
 add-result : tie.Need-add-result
 add-result c = search needs
 
--- src/waits.rt:30:1
 returns-2 : tie.Need-returns-2
 unfolding endOf
 returns-2 c = omega arith

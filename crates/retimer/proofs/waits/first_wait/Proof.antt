@@ -5,35 +5,27 @@ use Rattle.retimer.specs.Waits.{firstWait}
 use Rattle.retimer.proofs.waits.first_wait.Statement.{statement}
 use Rattle.retimer.proofs.waits.first_wait.Tie as tie
 
--- src/waits.rt:53:20
 add-up-to : tie.Need-add-up-to
 add-up-to c = search needs
 
--- src/waits.rt:53:18
 shared-slice-read-up-to : tie.Need-shared-slice-read-up-to
 shared-slice-read-up-to c = search needs
 
--- src/waits.rt:53:12
 up-to-requires : tie.Need-up-to-requires
 up-to-requires c κs = search needs
 
--- src/waits.rt:53:40
 add-up-to-2 : tie.Need-add-up-to-2
 add-up-to-2 c = search needs
 
--- src/waits.rt:53:38
 shared-slice-read-up-to-2 : tie.Need-shared-slice-read-up-to-2
 shared-slice-read-up-to-2 c = search needs
 
--- src/waits.rt:53:32
 up-to-requires-2 : tie.Need-up-to-requires-2
 up-to-requires-2 c κs = search needs
 
--- src/waits.rt:53:5
 larger-requires : tie.Need-larger-requires
 larger-requires c κs = search needs
 
--- src/waits.rt:49:1
 returns : tie.Need-returns
 unfolding firstWait
 returns c = omega arith

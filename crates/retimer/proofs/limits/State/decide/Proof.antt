@@ -58,7 +58,7 @@ outlook-of-requires : tie.Need-outlook-of-requires
 outlook-of-requires c κs =
     let r = c .before .before .wait-many in
     let a = c .before .before .before .before .before .before .before .before in
-    lamp-asked (a .args .self) _ (r .result) (a .pre .0) (r .ensures .0) .0
+    lamp-asked (a .args .self) _ (r .result) (a .pre .0) (r .ensures .0)
 
 enum-told : tie.Need-enum-told
 enum-told c = search needs

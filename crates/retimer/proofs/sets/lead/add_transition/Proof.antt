@@ -1,7 +1,7 @@
 -- `lead::add_transition` meets its contract. The invariant: the rows from y on have gained what they are to gain, the others are as they were. The measure is y. Assumes nothing.
 use Rattle.retimer.proofs.sets.Adding.{Adding, adding-begun, adding-more, adding-same, adding-ended}
 use Rattle.retimer.proofs.sets.Bounding.{past-ordered}
-use Rattle.retimer.specs.Sets.{past}
+use Rattle.retimer.specs.Readings.{past}
 use Rattle.enforcement.specs.Automaton.{transitionAt, byte}
 use Rattle.enforcement.specs.Model.{width}
 use Prim.Native.Nat.{_+_, _≤_, min}

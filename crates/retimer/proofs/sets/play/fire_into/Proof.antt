@@ -46,7 +46,9 @@ cast-result : tie.Need-cast-result
 cast-result c = search needs
 
 shl-result : tie.Need-shl-result
-shl-result c = target-small _ _ _ _ _ (c .before .before .before .before .before .before .before .before .before .before .pre .0) (c .before .before .before .before .before .before .before .before .before .before .pre .1 .1) (c .before .before .before .before .before .wide .ensures .0)
+shl-result c =
+    let a = c .before .before .before .before .before .before .before .before .before .before in
+    omega (arith, target-small _ _ _ _ _ (a .pre .0) (a .pre .1 .1) (c .before .before .before .before .before .wide .ensures .0))
 
 same-length : tie.Need-same-length
 same-length c = search needs

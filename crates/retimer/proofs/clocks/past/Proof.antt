@@ -1,9 +1,9 @@
--- `bounds::past` meets its contract. By the two cases of the bound. Assumes nothing.
+-- `clocks::past` meets its contract. By the two cases of the bound. Assumes nothing.
 use mathlib.Core.Path.{refl}
 use borrow.Author.Tests.{eq-eqb, ne-eqb}
 use borrow.Author.Needs.{needs}
-use Rattle.retimer.proofs.sets.bounds.past.Statement.{statement}
-use Rattle.retimer.proofs.sets.bounds.past.Tie as tie
+use Rattle.retimer.proofs.clocks.past.Statement.{statement}
+use Rattle.retimer.proofs.clocks.past.Tie as tie
 
 returns : tie.Need-returns
 returns c = simp (eq-eqb (c .before .args .high) 255 (c .if1 .taken))
