@@ -220,6 +220,5 @@ module _ {start : Monitor} {s : Bytes} {n : ℕ} {before out : List ℕ} {q : St
         calls-are = omega (arith, g .made-is, all-done);
         monitor-is = monitor-all;
         valid = valid-box f (g .valid);
-        same-sheet = refl;
         kept = refl;
       }

@@ -36,14 +36,13 @@ linesOf m b n (k ∷ ks) = lineOf m (suc n) (answer m b k) ++ linesOf m (answer 
 abbrev pub blockText : Compiled → model.Monitor → ℕ → Bytes → List ℕ
 blockText m b n s = linesOf m b n (callsOf s) ++ tailLine (length s % 5)
 
--- The text of the block is written at the front of the buffer; the box is the model's after the block's calls, of the same sheet, and has its bytes and table as they were.
+-- The text of the block is written at the front of the buffer; the box is the model's after the block's calls, with bytes and table as they were.
 pub record MarkRight (b : Monitor) (s : Bytes) (n : ℕ) (before after : List ℕ) (r : Marked) : Type 0 where
   pub wrote : Wrote before 0 (blockText (modelOf (bytesOf b)) (viewOf b) n s) after (r .size)
   pub counts : Counts (r .size) after
   pub calls-are : r .calls ≡ n + length s / 5
   pub monitor-is : viewOf (r .monitor) ≡ replay (modelOf (bytesOf b)) (viewOf b) (callsOf s) .monitor
   pub valid : Valid (r .monitor)
-  pub same-sheet : bytesOf (r .monitor) ≡ bytesOf b
   pub kept : r .monitor ≡ withState b (r .monitor .state)
 
 -- Blocks join: the text of bytes that begin with whole calls is the text of those calls, and behind it that of the rest, on the box and with the number of

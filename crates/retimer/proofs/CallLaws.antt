@@ -73,7 +73,6 @@ move-call {b} f m = record {
   is = m .is;
   rule = m .rule;
   valid = valid-box f (m .valid);
-  same-sheet = refl;
   kept = refl;
   idle-same = m .idle-same;
   refused-same = λ q e. ap (withState b) (m .refused-same q e);

@@ -36,7 +36,7 @@ made-follows : {b b′ : Monitor} {ks : List Call} {xs : List Answer} (s : Bytes
 unfolding replay
 made-follows s e v end = record { monitor-is = refl; outcomes-are = refl; sheet-is = e; valid = v }
 made-follows {b} {b′} s e v (call {k = k} {ks = ks} {xs = xs} r c m) =
-    let f : Follows s (r .monitor) ks xs b′ = made-follows s (c .same-sheet ∙ e) (c .valid) m in
+    let f : Follows s (r .monitor) ks xs b′ = made-follows s (ap bytesOf (c .kept) ∙ e) (c .valid) m in
     let w : answeredOf r ≡ answer (modelOf s) (viewOf b) k = subst (λ (x : Bytes). answeredOf r ≡ answer (modelOf x) (viewOf b) k) e (c .is) in
     let z : viewOf (r .monitor) ≡ answer (modelOf s) (viewOf b) k .monitor = ap (λ (x : model.Answered). x .monitor) w in
     record {

@@ -15,6 +15,7 @@ use Rattle.enforcement.specs.Model.{top, width}
 use Rattle.retimer.specs.Readings.{past}
 use Rattle.retimer.specs.Layers.{cellOf, cell, RowLowered, BoxLowered}
 use Rattle.retimer.proofs.sets.Bounding.{enabled-tests, past-ordered, within-past, within-inside}
+use Rattle.retimer.proofs.Valuations.{cond-most}
 use Rattle.retimer.proofs.CostLaws.{le-or-lt}
 
 -- A place of another row, or of another column, is not among those of a row.
@@ -29,12 +30,13 @@ apart r x b lo hi h k l (inr (inr m)) = go (le-or-lt b r) (le-or-lt r b) m
     go (inl u) (inl v) (inl m) = inl (omega arith)
     go (inl u) (inl v) (inr m) = inr (omega arith)
 
--- The two reset bits, as the code has them.
+-- The first reset bit, as the code has it.
 pub first-bit : (set : ℕ) → eqb (set % 2) 1 ≡ bit set 0
 first-bit set = ap (λ (n : ℕ). eqb n 1) (let z : set % 2 ≡ (set / 1) % 2 = omega arith in z)
 
-pub second-row : (set y : ℕ) → set ≤ 3 → cond (eqb (set / 2) 1) 0 y ≡ cond (bit set 1) 0 y
-second-row set y h = ap (λ (n : ℕ). cond (eqb n 1) 0 y) (let z : set / 2 ≡ (set / 2) % 2 = omega arith in z)
+-- A row after a transition is one of the table.
+pub row-inside : (u : Transition) {row y : ℕ} → row ≡ cond (bit (u .resets) 1) 0 y → y ≤ top → row ≤ top
+row-inside u {row} {y} e h = rw e (cond-most (bit (u .resets) 1) y top h)
 
 -- The columns and the rows of a transition's box end in the table.
 pub columns-end : {s : Bytes} {v : Transition} → Fits s v → past (v .high1) ≤ width

@@ -119,13 +119,12 @@ pub record MoveRight (s : Bytes) (live : List ℕ) (q : State) (k : Call) (r : M
   pub held-count : (n : ℕ) → r .answer ≡ Held n → n ≡ length (view (r .state) .pending)
 
 -- What a call promises (demand 2): answer and box are the model's; for every history that the box stands for, the answer is the history's, and the box
--- stands for the history after it; the box is one, of the same sheet, and has its bytes and table as they were; a refusal hands back the box that came, and where nothing is held, scheduled or played only its date may have moved; "held"
--- has the held list's own length.
+-- stands for the history after it; the box is one, with bytes and table as they were; a refusal hands back the box that came, and where nothing is held, scheduled or played only
+-- its date may have moved; "held" has the held list's own length.
 pub record CallRight (b : Monitor) (k : Call) (r : Answered) : Type 0 where
   pub is : answeredOf r ≡ answer (modelOf (bytesOf b)) (viewOf b) k
   pub rule : (h : History) → StandsFor (automatonOf b) (viewOf b) h → Demand2 (automatonOf b) h k (answeredOf r)
   pub valid : Valid (r .monitor)
-  pub same-sheet : bytesOf (r .monitor) ≡ bytesOf b
   pub kept : r .monitor ≡ withState b (r .monitor .state)
   pub idle-same : Idle (r .answer) → r .monitor .state ≡ movedTo (b .state) (r .monitor .state .date)
   pub refused-same : (q : Reason) → r .answer ≡ Refused q → r .monitor ≡ b

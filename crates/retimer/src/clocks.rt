@@ -44,6 +44,13 @@ fn kept(bit: u8, x: u8) -> u8
     if bit == 1 { 0 } else { x }
 }
 
+// The same of a second reading that counts rows.
+pub fn row_after(bit: u8, y: usize) -> usize
+    ensures { λ v. ⌜ v ≡ cond (eqb bit 1) 0 y ⌝ }
+{
+    if bit == 1 { 0 } else { y }
+}
+
 // The clocks of a set are reset.
 pub fn reset(r: [u8; 2], set: u8) -> [u8; 2]
     requires { ⌜ Readings r ⌝ }

@@ -91,13 +91,6 @@ fn ticks(table: &mut [u16], m: usize)
     }
 }
 
-// The row to which a transition leads from the row y: the first one where it resets the second clock.
-fn row_after(reset: bool, y: usize) -> usize
-    ensures { λ v. ⌜ (v ≡ cond reset 0 y) × (v ≤ y) ⌝ }
-{
-    if reset { 0 } else { y }
-}
-
 // The columns x up to end of one row: the lesser of each cost and of v.
 fn lower_by(v: u16, table: &mut [u16], to: usize, x: usize, end: usize)
     requires { ⌜ LineAsked to end (now table) ⌝ }
@@ -153,7 +146,7 @@ fn lower_box(s: &[u8], p: usize, other: &[u16], t: usize, table: &mut [u16], m: 
     let last = clocks::past(s[p + 6]);
     let mut y = bytes::wide(s[p + 5]);
     while y < last {
-        let row = row_after(set / 2 == 1, y);
+        let row = clocks::row_after(set / 2 % 2, y);
         lower_row(
             other,
             cell(t, 0, row),

@@ -25,12 +25,6 @@ use Rattle.retimer.proofs.sets.Tables.{apart}
 
 -- ---- The row that leads into the target
 
-pub kept-zero : (b y : ℕ) → b ≡ 1 → 0 ≡ cond (eqb b 1) 0 y
-kept-zero b y e = rw (eq-eqb b 1 e) refl
-
-pub kept-same : (b y : ℕ) → (b ≡ 1 → ⊥) → y ≡ cond (eqb b 1) 0 y
-kept-same b y e = rw (ne-eqb b 1 e) refl
-
 module _ (t : List ℕ) (target resets y k : ℕ) (e : k ≡ cond (eqb (resets / 2 % 2) 1) 0 y) where
   pub leading-spread : (v : ℕ) → Spread (getD t (target * width + k) 0) v → resets % 2 ≡ 1 → Leading t target resets y v
   leading-spread v s h = record { bits = λ x g. s .bits x g ∙ rw (bit-lowest resets, eq-eqb (resets % 2) 1 h, e) refl }

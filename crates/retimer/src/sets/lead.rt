@@ -5,9 +5,7 @@ use crate::limits::Monitor;
 use crate::sets::bounds;
 use crate::sets::row;
 ghost use mathlib.Core.Path.{_≡_};
-ghost use mathlib.Core.Bool.{cond};
 ghost use Prim.Native.Nat.{_+_, _≤_, _<_, max};
-ghost use lib.Dec.{eqb};
 ghost use lib.ListN.{length};
 ghost use Rattle.enforcement.specs.Limits.{maxCount};
 ghost use Rattle.enforcement.specs.Automaton.{locations, transitionAt};
@@ -15,19 +13,12 @@ ghost use Rattle.enforcement.specs.Loading.{Fits};
 ghost use Rattle.enforcement.specs.Model.{top};
 ghost use Rattle.retimer.specs.Leading.{allRows, leads, Leading, RowAdded, TransitionAdded, WaitsAdded};
 
-// A second reading after a transition: 0 where the clock's bit is set.
-fn kept(bit: u8, y: usize) -> usize
-    ensures { λ v. ⌜ v ≡ cond (eqb bit 1) 0 y ⌝ }
-{
-    if bit == 1 { 0 } else { y }
-}
-
 // The first readings with which resets lead into the target's rows, at a second reading.
 fn leading(rows: &[u64], target: usize, resets: u8, y: usize) -> u64
     requires { ⌜ (length (now rows) ≡ allRows) × ((target < maxCount) × (y ≤ top)) ⌝ }
     ensures { λ v. ⌜ Leading (now (rows .entry)) target resets y v ⌝ }
 {
-    let i = target * Monitor::WIDTH + kept(resets / 2 % 2, y);
+    let i = target * Monitor::WIDTH + clocks::row_after(resets / 2 % 2, y);
     let row = rows[i];
     if resets % 2 == 1 {
         return row::spread(row);

@@ -5,7 +5,7 @@ use mathlib.Core.Path.{subst⁻¹, ap, _∙_}
 use Prim.Native.Nat.{ℕ, _-_}
 use Rattle.enforcement.specs.Automaton.{transitionAt}
 use Rattle.retimer.specs.Layers.{cellOf}
-use Rattle.retimer.proofs.LayingBoxes.{InBox, box-begun, box-done, box-next, first-bit, second-row, columns-end, rows-end, row-of}
+use Rattle.retimer.proofs.LayingBoxes.{InBox, box-begun, box-done, box-next, first-bit, row-inside, columns-end, rows-end, row-of}
 use Rattle.retimer.proofs.layers.lower_box.Statement.{statement}
 use Rattle.retimer.proofs.layers.lower_box.Tie as tie
 
@@ -69,7 +69,7 @@ cell-requires : tie.Need-cell-requires Inv-loop μ-loop
 cell-requires c κs =
     let a = c .before .before .before .before .before .before .before .before .before .before .before .before .before .before .before in
     let f = rows-end (a .pre .0 .1) in
-    (a .pre .1 .0 .0, (omega arith, omega (arith, c .row-after .ensures .1, c .before .before .before .before .before .past2 .ensures)))
+    (a .pre .1 .0 .0, (omega arith, row-inside (transitionAt (a .args .s .now) (a .args .p)) (c .row-after .ensures) (omega (arith, c .before .before .before .before .before .past2 .ensures))))
 
 cell-requires-2 : tie.Need-cell-requires-2 Inv-loop μ-loop
 cell-requires-2 c κs =
@@ -82,7 +82,8 @@ lower-row-requires c κs =
     let a = c .before .before .before .before .before .before .before .before .before .before .before .before .before .before .before .before .before .before in
     let f = rows-end (a .pre .0 .1) in
     let g = columns-end (a .pre .0 .1) in
-    (record { size = omega (arith, a .pre .1 .1 .1, c .before .before .before .before .before .loop .inv .same-length); narrow = omega (arith, c .before .before .before .before .before .before .before .before .before .before .past .ensures); inside = omega (arith, a .pre .1 .1 .0, c .before .before .before .before .before .before .before .before .past2 .ensures, c .cell2 .ensures) }, record { size = a .pre .1 .0 .1; narrow = omega (arith, c .before .before .before .before .before .before .before .before .before .before .past .ensures); inside = omega (arith, a .pre .1 .0 .0, c .before .before .before .row-after .ensures .1, c .before .before .before .before .before .before .before .before .past2 .ensures, c .before .before .cell .ensures) })
+    let row = row-inside (transitionAt (a .args .s .now) (a .args .p)) (c .before .before .before .row-after .ensures) (omega (arith, c .before .before .before .before .before .before .before .before .past2 .ensures)) in
+    (record { size = omega (arith, a .pre .1 .1 .1, c .before .before .before .before .before .loop .inv .same-length); narrow = omega (arith, c .before .before .before .before .before .before .before .before .before .before .past .ensures); inside = omega (arith, a .pre .1 .1 .0, c .before .before .before .before .before .before .before .before .past2 .ensures, c .cell2 .ensures) }, record { size = a .pre .1 .0 .1; narrow = omega (arith, c .before .before .before .before .before .before .before .before .before .before .past .ensures); inside = omega (arith, a .pre .1 .0 .0, row, c .before .before .before .before .before .before .before .before .past2 .ensures, c .before .before .cell .ensures) })
 
 add-y : tie.Need-add-y Inv-loop μ-loop
 add-y c =
@@ -97,8 +98,7 @@ loop-again : tie.Need-loop-again Inv-loop μ-loop
 loop-again c =
     let a = c .before .before .before .before .before .before .before .before .before .before .before .before .before .before .before .before .before .before .before .before .before in
     let r = transitionAt (a .args .s .now) (a .args .p) in
-    let row-is = c .before .before .before .before .before .before .row-after .ensures .0 ∙ second-row (r .resets) (c .before .before .before .before .before .before .before .before .loop .y) (a .pre .0 .1 .resets-fit) in
-    let from-is = c .before .before .before .before .before .cell .ensures ∙ ap (λ (n : ℕ). cellOf (a .args .t) 0 n) row-is in
+    let from-is = c .before .before .before .before .before .cell .ensures ∙ ap (λ (n : ℕ). cellOf (a .args .t) 0 n) (c .before .before .before .before .before .before .row-after .ensures) in
     let row = row-of (c .before .before .before .before .before .before .before .before .before .before .before .before .before .before .before .wide .ensures .0) (c .before .before .before .before .before .before .before .before .before .before .before .before .before .past .ensures) (c .before .before .lower-row .ensures) in
     box-next (a .pre .0 .1 .first) (a .pre .0 .1 .second) (c .before .before .before .before .before .before .before .before .loop .inv) (omega (arith, c .before .before .before .before .before .before .before .before .before .before .before .past2 .ensures)) from-is (first-bit (r .resets)) (c .before .before .before .cell2 .ensures) row
 
