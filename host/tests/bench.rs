@@ -4,7 +4,7 @@ mod common;
 
 use common::fresh;
 use host::bench::{heaviest, loading, Counter, Figures, Folder, Input, Kind};
-use host::bench::{typical, Measured, Programs, Stop, KINDS, LOADING, SHORT, WORST};
+use host::bench::{typical, Measured, Programs, Stop, KINDS, LOADING, SHORT, STORED, WORST};
 use host::desk::{self, CALL, COLLECTION};
 use host::monitor::{Answer, Monitor};
 use host::runs::{Configuration, Reached};
@@ -20,7 +20,7 @@ const REFERENCE: &str = env!("CARGO_BIN_EXE_reference");
 const FAST: &str = env!("CARGO_BIN_EXE_fast");
 
 fn kind(name: &str) -> &'static Kind {
-    let mut all = KINDS.iter().chain(SHORT).chain(WORST);
+    let mut all = KINDS.iter().chain(SHORT).chain(WORST).chain(STORED);
     all.find(|kind| kind.name == name).expect("the kind exists")
 }
 
@@ -75,7 +75,7 @@ fn check_parts(input: &Input) {
 
 #[test]
 fn inputs_load_and_are_always_the_same() {
-    for kind in KINDS.iter().chain(WORST) {
+    for kind in KINDS.iter().chain(WORST).chain(STORED) {
         let inputs = kind.inputs(kind.short);
         assert_eq!(inputs, kind.inputs(kind.short), "{}", kind.name);
         let count: usize = inputs.iter().map(|input| input.count).sum();
@@ -86,6 +86,25 @@ fn inputs_load_and_are_always_the_same() {
             assert_eq!(counted(input).len(), input.count);
             assert_eq!(input.whole.len(), input.base.len() + CALL * input.count);
             check_parts(input);
+        }
+    }
+}
+
+#[test]
+fn calls_that_show_the_lamp() {
+    let rows = [
+        ("refused, I-7", "refused I-7", "lamp 0"),
+        ("lit, offers", "dropped", "lamp 1"),
+        ("lit, collections", "none", "lamp 1"),
+        ("collections, same first date", "none", "lamp 0"),
+        ("collections, each a tick later", "none", "lamp 0"),
+        ("held, 1 to 16", "held", "lamp 0"),
+    ];
+    for (name, answer, lamp) in rows {
+        let inputs = kind(name).inputs(16);
+        let lines = inputs.iter().flat_map(counted);
+        for line in lines {
+            assert!(line.contains(answer) && line.ends_with(lamp), "{line}");
         }
     }
 }

@@ -2,7 +2,7 @@
 use mathlib.Core.Path.{_≡_, refl, subst⁻¹}
 use mathlib.Core.Bool.{Bool, true, false, _&&_}
 use mathlib.Core.List.{List, [], _∷_, _++_}
-use mathlib.Core.Logic.{_⊎_, inl, inr}
+use mathlib.Core.Logic.{_⊎_, inl, inr, _↔_}
 use Prim.Native.Nat.{ℕ, zero, suc, _≤_, _<_}
 use native.Mathlib.Omega.{arith}
 use native.Mathlib.Nat.{eq-or-lt-of-le, not-suc-le-zero}
@@ -120,16 +120,24 @@ module _ (𝒜 : Automaton) (bounded : Bounded (𝒜 .bytes)) (m : Compiled) (mi
       go dead x y = Decision.dead-shut 𝒜 bounded m mine w last q reaches t (c ∷ cs) tt x o
 
   -- A lit lamp: the word does not continue. A dark lamp: it does.
-  pub lit-right : (cs : List ℕ) → isLit m standing cs ≡ true → Continues 𝒜 w t cs → ⊥
+  lit-right : (cs : List ℕ) → isLit m standing cs ≡ true → Continues 𝒜 w t cs → ⊥
   unfolding isLit
   lit-right [] e g =
       let n = continues-next g in
       dead-shut (n .0) [] (none-next m standing (m .known) e (n .0) (omega (arith, n .1, mine .known-is))) (n .2)
   lit-right (c ∷ cs) e g = dead-shut c cs e (continues-open c cs g)
 
-  pub dark-right : (cs : List ℕ) → isLit m standing cs ≡ false → Continues 𝒜 w t cs
+  dark-right : (cs : List ℕ) → isLit m standing cs ≡ false → Continues 𝒜 w t cs
   unfolding isLit
   dark-right [] e =
       let n = some-next m standing (m .known) e in
       next-continues (n .0) (omega (arith, n .1, mine .known-is)) (live-open (n .0) [] (n .2))
   dark-right (c ∷ cs) e = open-continues c cs (live-open c cs e)
+
+  -- The lamp is dark exactly when the word continues.
+  pub lamp-right : (cs : List ℕ) → (isLit m standing cs ≡ false) ↔ Continues 𝒜 w t cs
+  lamp-right cs = (dark-right cs, λ g. go (isLit m standing cs) refl g)
+    where
+      go : (x : Bool) → isLit m standing cs ≡ x → Continues 𝒜 w t cs → x ≡ false
+      go true e g = absurd (lit-right cs e g)
+      go false e g = refl

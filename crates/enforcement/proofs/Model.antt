@@ -13,7 +13,9 @@ use Rattle.enforcement.specs.Model.{Compiled, compile}
 use Rattle.enforcement.specs.Monitor.{Monitor, freshMonitor, lampLit, answer, replay}
 use Rattle.enforcement.specs.Demands.{StandsFor, Demand2, calls}
 use Rattle.enforcement.proofs.Compilation.{compiled}
+use Rattle.enforcement.proofs.Tests.{true-false}
 use Rattle.enforcement.proofs.Decision.{correctable}
+use Rattle.enforcement.proofs.Lamp.{lamp-right}
 use Rattle.enforcement.proofs.Simulation
 use Rattle.enforcement.proofs.Simulation.{Follows}
 use Rattle.enforcement.proofs.Progress.{Decides, history-uncorrected, fresh-uncorrected, schedulable-dark, dark-schedulable}
@@ -24,10 +26,32 @@ unfolding replay
 replay-append m [] more b = refl
 replay-append m (k ∷ ks) more b = replay-append m ks more (answer m b k .monitor)
 
-pub fresh-stands : (𝒜 : Automaton) → StandsFor 𝒜 (freshMonitor 𝒜) (fresh 𝒜)
-fresh-stands 𝒜 = record { date-is = refl; pending-is = refl; schedule-is = refl; played-fits = omega arith; exact = origin 𝒜; reaches = (refl, refl); configuration-is = refl }
+-- What the lamp of a monitor that stands for a history shows.
+module _ {𝒜 : Automaton} {ℋ : History} {b : Monitor} (s : StandsFor 𝒜 b ℋ) where
+  pub lit-shows : b .lit ≡ true → Dark 𝒜 ℋ → ⊥
+  lit-shows e g = true-false e (s .lamp-is .1 g)
+
+  pub not-dark-lit : (Dark 𝒜 ℋ → ⊥) → b .lit ≡ true
+  not-dark-lit f = go (b .lit) refl
+    where
+      go : (u : Bool) → b .lit ≡ u → u ≡ true
+      go true e = refl
+      go false e = absurd (f (s .lamp-is .0 e))
 
 module _ (𝒜 : Automaton) (bounded : Bounded (𝒜 .bytes)) where
+  pub fresh-stands : StandsFor 𝒜 (freshMonitor 𝒜) (fresh 𝒜)
+  unfolding lampLit
+  fresh-stands = record {
+    date-is = refl;
+    pending-is = refl;
+    schedule-is = refl;
+    played-fits = omega arith;
+    exact = origin 𝒜;
+    reaches = (refl, refl);
+    configuration-is = refl;
+    lamp-is = lamp-right 𝒜 bounded (compile 𝒜) (compiled 𝒜 bounded) [] (𝒜 .loaded) (origin 𝒜) (refl, refl) (𝒜 .loaded) [];
+  }
+
   -- On a monitor that stands for a history, a call answers as the history.
   pub answers : (ℋ : History) (b : Monitor) → StandsFor 𝒜 b ℋ → (k : Call) → Demand2 𝒜 ℋ k (answer (compile 𝒜) b k)
   answers = Simulation.answer-right 𝒜 bounded (compile 𝒜) (compiled 𝒜 bounded)
@@ -38,28 +62,11 @@ module _ (𝒜 : Automaton) (bounded : Bounded (𝒜 .bytes)) where
 
   -- For every list of calls from a fresh monitor: the outcomes are the history's, and the monitor stands for it.
   pub right : (ks : List Call) → Follows 𝒜 (fresh 𝒜) ks (calls 𝒜 ks)
-  right ks = follows ks (fresh 𝒜) (freshMonitor 𝒜) (fresh-stands 𝒜)
+  right ks = follows ks (fresh 𝒜) (freshMonitor 𝒜) fresh-stands
 
-  -- The lamp of a monitor that stands for a history is lit exactly when the lamp rule does not say dark.
-  pub lit-shows : (ℋ : History) (b : Monitor) → StandsFor 𝒜 b ℋ → lampLit (compile 𝒜) b ≡ true → Dark 𝒜 ℋ → ⊥
-  lit-shows = Simulation.lit-shows 𝒜 bounded (compile 𝒜) (compiled 𝒜 bounded)
-
-  pub dark-shows : (ℋ : History) (b : Monitor) → StandsFor 𝒜 b ℋ → lampLit (compile 𝒜) b ≡ false → Dark 𝒜 ℋ
-  dark-shows = Simulation.dark-shows 𝒜 bounded (compile 𝒜) (compiled 𝒜 bounded)
-
-  pub not-dark-lit : (ℋ : History) (b : Monitor) → StandsFor 𝒜 b ℋ → (Dark 𝒜 ℋ → ⊥) → lampLit (compile 𝒜) b ≡ true
-  not-dark-lit ℋ b s f = go (lampLit (compile 𝒜) b) refl
-    where
-      go : (u : Bool) → lampLit (compile 𝒜) b ≡ u → u ≡ true
-      go true e = refl
-      go false e = absurd (f (dark-shows ℋ b s e))
-
-  pub dark-not-lit : (ℋ : History) (b : Monitor) → StandsFor 𝒜 b ℋ → Dark 𝒜 ℋ → lampLit (compile 𝒜) b ≡ false
-  dark-not-lit ℋ b s g = go (lampLit (compile 𝒜) b) refl
-    where
-      go : (u : Bool) → lampLit (compile 𝒜) b ≡ u → u ≡ false
-      go true e = absurd (lit-shows ℋ b s e g)
-      go false e = refl
+  -- The lamp of a monitor that stands for a history is the one by the rule.
+  pub lamp-rule : (ℋ : History) (b : Monitor) → StandsFor 𝒜 b ℋ → b .lit ≡ lampLit (compile 𝒜) b
+  lamp-rule = Simulation.lamp-rule 𝒜 bounded (compile 𝒜) (compiled 𝒜 bounded)
 
   decides : (ℋ : History) (b : Monitor) → StandsFor 𝒜 b ℋ → (t : ℕ) → Decides 𝒜 (wordOf (ℋ .scheduled)) t
   unfolding Decides

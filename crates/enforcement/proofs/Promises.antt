@@ -1,5 +1,5 @@
 -- The promises of specs/Demands.antt.
-use mathlib.Core.Path.{_≡_, subst, subst⁻¹}
+use mathlib.Core.Path.{_≡_, refl, subst, subst⁻¹}
 use mathlib.Core.Bool.{true}
 use mathlib.Core.List.{List, _++_}
 use Prim.Native.Nat.{ℕ, _≤_}
@@ -7,7 +7,7 @@ use Rattle.enforcement.specs.Automaton.{Automaton, Bytes, automaton}
 use Rattle.enforcement.specs.Loading.{Bounded, Loads}
 use Rattle.enforcement.specs.History.{History, fresh, Call, offer, dropped, Dark}
 use Rattle.enforcement.specs.Model.{compile}
-use Rattle.enforcement.specs.Monitor.{Monitor, freshMonitor, lampLit, answer, replay}
+use Rattle.enforcement.specs.Monitor.{Monitor, freshMonitor, answer, replay}
 use Rattle.enforcement.specs.Demands.{StandsFor, Demand2All, ModelDemand3All, calls, lampAfter, InTime, Promised}
 use Rattle.enforcement.proofs.Loading
 use Rattle.enforcement.proofs.Constraints.{enforcement}
@@ -21,10 +21,10 @@ demand-2 𝒜 bounded ℋ b s k = Model.answers 𝒜 bounded ℋ b s k
 
 module _ (𝒜 : Automaton) (bounded : Bounded (𝒜 .bytes)) where
   -- A history for which a monitor stands, and for which the lamp rule does not say dark.
-  record Exhausted (b : Monitor) : Type 0 where
-    history : History
-    stands : StandsFor 𝒜 b history
-    not-dark : Dark 𝒜 history → ⊥
+  pub record Exhausted (b : Monitor) : Type 0 where
+    pub history : History
+    pub stands : StandsFor 𝒜 b history
+    pub not-dark : Dark 𝒜 history → ⊥
 
   -- Where the lamp is lit after some calls, it is so after more.
   exhausted : (ks more : List Call) → lampAfter 𝒜 ks ≡ true → Exhausted (calls 𝒜 (ks ++ more) .monitor)
@@ -35,20 +35,20 @@ module _ (𝒜 : Automaton) (bounded : Bounded (𝒜 .bytes)) where
       (record {
         history = y .history;
         stands = y .stands;
-        not-dark = history-lit 𝒜 (z .history) (y .history) more (replay (compile 𝒜) (calls 𝒜 ks .monitor) more .outcomes) (Model.lit-shows 𝒜 bounded (z .history) (calls 𝒜 ks .monitor) (z .stands) e) (y .recorded);
+        not-dark = history-lit 𝒜 (z .history) (y .history) more (replay (compile 𝒜) (calls 𝒜 ks .monitor) more .outcomes) (Model.lit-shows (z .stands) e) (y .recorded);
       })
 
-  exhausted-lit : (b : Monitor) → Exhausted b → lampLit (compile 𝒜) b ≡ true
-  exhausted-lit b x = Model.not-dark-lit 𝒜 bounded (x .history) b (x .stands) (x .not-dark)
+  exhausted-lit : (b : Monitor) → Exhausted b → b .lit ≡ true
+  exhausted-lit b x = Model.not-dark-lit (x .stands) (x .not-dark)
 
-  exhausted-drops : (b : Monitor) → Exhausted b → (c t : ℕ) → InTime 𝒜 b c t → answer (compile 𝒜) b (offer c t) .outcome ≡ dropped
+  pub exhausted-drops : (b : Monitor) → Exhausted b → (c t : ℕ) → InTime 𝒜 b c t → answer (compile 𝒜) b (offer c t) .outcome ≡ dropped
   exhausted-drops b x c t i =
       let r = Model.answers 𝒜 bounded (x .history) b (x .stands) (offer c t) in
       lit-drops 𝒜 (x .history) (r .history) c t (answer (compile 𝒜) b (offer c t) .outcome) (x .not-dark)
       (record { known = i .known; early = i .early; current = subst (λ (d : ℕ). d ≤ t) (x .stands .date-is) (i .current) }) (r .answers)
 
 pub model-demand-3 : (𝒜 : Automaton) → Bounded (𝒜 .bytes) → ModelDemand3All 𝒜
-unfolding ModelDemand3All
+unfolding ModelDemand3All answer
 model-demand-3 𝒜 bounded ks =
     let z = Model.right 𝒜 bounded ks in
     let same = Model.dark-is 𝒜 bounded ks in
@@ -57,9 +57,10 @@ model-demand-3 𝒜 bounded ks =
       recorded = z .recorded;
       only = λ os h r. one-history 𝒜 (fresh 𝒜) ks os (calls 𝒜 ks .outcomes) h (z .history) r (z .recorded);
       stands = z .stands;
-      lit-is = (λ e g. Model.lit-shows 𝒜 bounded (z .history) (calls 𝒜 ks .monitor) (z .stands) e (same .1 g), λ f. Model.not-dark-lit 𝒜 bounded (z .history) (calls 𝒜 ks .monitor) (z .stands) (λ g. f (same .0 g)));
-      dark-is = (λ e. same .0 (Model.dark-shows 𝒜 bounded (z .history) (calls 𝒜 ks .monitor) (z .stands) e), λ g. Model.dark-not-lit 𝒜 bounded (z .history) (calls 𝒜 ks .monitor) (z .stands) (same .1 g));
+      lit-is = (λ e g. Model.lit-shows (z .stands) e (same .1 g), λ f. Model.not-dark-lit (z .stands) (λ g. f (same .0 g)));
+      dark-is = (λ e. same .0 (z .stands .lamp-is .0 e), λ g. z .stands .lamp-is .1 (same .1 g));
       rule-is = same;
+      answers-lamp = refl;
       stays-lit = λ e more. exhausted-lit 𝒜 bounded (calls 𝒜 (ks ++ more) .monitor) (exhausted 𝒜 bounded ks more e);
       drops = λ e more c t i. exhausted-drops 𝒜 bounded (calls 𝒜 (ks ++ more) .monitor) (exhausted 𝒜 bounded ks more e) c t i;
     }

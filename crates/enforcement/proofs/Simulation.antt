@@ -2,10 +2,11 @@
 use mathlib.Core.Path.{_≡_, refl, ap, sym, _∙_, subst, subst⁻¹}
 use mathlib.Core.Bool.{Bool, true, false, cond}
 use mathlib.Core.List.{List, [], _∷_, _++_}
-use Prim.Native.Nat.{ℕ, _+_, _≤_, max}
+use mathlib.Core.Logic.{_↔_}
+use Prim.Native.Nat.{ℕ, suc, _+_, _-_, _≤_, max}
 use native.Mathlib.Omega.{arith}
 use lib.Dec.{leb, ltb}
-use lib.ListN.{length, length-append}
+use lib.ListN.{length, drop, length-append}
 use lib.Seq.{drop-append-le}
 use borrow.Author.Tests.{leb-true, leb-false, ltb-true, ltb-false}
 use Rattle.enforcement.specs.Limits.{maxCount, maxDate}
@@ -14,8 +15,8 @@ use Rattle.enforcement.specs.TimedWord.{Configuration, Event, lastOf}
 use Rattle.enforcement.specs.Reason.{I-7, I-8, S-1, S-2, S-3, S-4}
 use Rattle.enforcement.specs.Loading.{Bounded}
 use Rattle.enforcement.specs.History.{Request, Slot, actionsOf, wordOf, place, History, schedule, freeSlots, Call, offer, collect, lamp, Outcome, scheduled, dropped, played, nothing, lit, dark, refused, joined, Passes, Chosen, Uncorrectable, IsOpen, afterSchedule, afterHold, afterDate, afterPlay, Dark, Answers, unknown, late, past, too-late, no-place, Answers.schedules, full, Answers.holds, Answers.drops, late-collect, past-collect, plays, too-early, empty, is-dark, is-lit, HistoryOf, end, call}
-use Rattle.enforcement.specs.Model.{Prospect, ticks, extensible, dead, Compiled, prospect, dates, saturated, oneClock}
-use Rattle.enforcement.specs.Monitor.{Monitor, placed, kept, decided, checked, offered, taken, oldest, picked, collected, lampLit, answer, Replayed, replay}
+use Rattle.enforcement.specs.Model.{Prospect, ticks, extensible, dead, Compiled, prospect, dates, advance, saturated, oneClock}
+use Rattle.enforcement.specs.Monitor.{Monitor, isLit, lampLit, withLamp, dated, placed, kept, decided, checked, offered, taken, oldest, picked, collected, answer, Replayed, replay}
 use Rattle.enforcement.specs.Demands.{Reaches, StandsFor, Demand2}
 use Rattle.enforcement.proofs.Slots.{drop-next, actions-length, word-append, word-place}
 use Rattle.enforcement.proofs.Runs.{NonEmpty}
@@ -23,31 +24,47 @@ use Rattle.enforcement.proofs.Corrections.{best-least}
 use Rattle.enforcement.proofs.Compilation.{CompiledFrom}
 use Rattle.enforcement.proofs.Decision
 use Rattle.enforcement.proofs.Decision.{standingAt}
-use Rattle.enforcement.proofs.Lamp.{lit-right, dark-right}
+use Rattle.enforcement.proofs.Tests.{true-false}
+use Rattle.enforcement.proofs.Lamp.{lamp-right}
 
--- The monitor that stands for a history, where everything ever scheduled reaches the date last and the configuration q.
-abbrev pub monitorOf : Automaton → History → ℕ → Configuration → Monitor
-monitorOf 𝒜 ℋ last q = record { date = ℋ .date; pending = ℋ .pending; schedule = schedule ℋ; configuration = saturated (oneClock 𝒜) q; last = last }
+-- The monitor that stands for a history, where everything ever scheduled reaches the date last and the configuration q, with the lamp x.
+abbrev pub monitorOf : Automaton → History → ℕ → Configuration → Bool → Monitor
+monitorOf 𝒜 ℋ last q x = record { date = ℋ .date; pending = ℋ .pending; schedule = schedule ℋ; configuration = saturated (oneClock 𝒜) q; last = last; lit = x }
 
 pub joined-nonEmpty : (rs : List Request) (c : ℕ) → NonEmpty (actionsOf (rs ++ (record { action = c } ∷ [])))
 joined-nonEmpty [] c = tt
 joined-nonEmpty (r ∷ rs) c = tt
 
-module _ (𝒜 : Automaton) (bounded : Bounded (𝒜 .bytes)) (m : Compiled) (mine : CompiledFrom 𝒜 m) (ℋ : History) (played-fits : ℋ .played ≤ length (ℋ .scheduled)) (last : ℕ) (q : Configuration) (reaches : Reaches 𝒜 (wordOf (ℋ .scheduled)) last q) where
+module _ (𝒜 : Automaton) (bounded : Bounded (𝒜 .bytes)) (m : Compiled) (mine : CompiledFrom 𝒜 m) (ℋ : History) (played-fits : ℋ .played ≤ length (ℋ .scheduled)) (last : ℕ) (q : Configuration) (reaches : Reaches 𝒜 (wordOf (ℋ .scheduled)) last q) (shines : Bool) (lamp-is : (shines ≡ false) ↔ Dark 𝒜 ℋ) where
   abbrev monitor : Monitor
-  monitor = monitorOf 𝒜 ℋ last q
-
-  -- A history with nothing more scheduled, and the monitor that stands for it.
-  stands : (t : ℕ) (rs : List Request) → StandsFor 𝒜 (record { date = t; pending = rs; schedule = schedule ℋ; configuration = monitor .configuration; last = last }) (record { date = t; scheduled = ℋ .scheduled; pending = rs; played = ℋ .played })
-  stands t rs = record { date-is = refl; pending-is = refl; schedule-is = refl; played-fits = played-fits; exact = q; reaches = reaches; configuration-is = refl }
+  monitor = monitorOf 𝒜 ℋ last q shines
 
   -- Nothing moves.
   stays : (k : Call) (o : Outcome) → Answers 𝒜 ℋ k o ℋ → Demand2 𝒜 ℋ k (record { outcome = o; monitor = monitor })
-  stays k o h = record { history = ℋ; answers = h; stands = stands (ℋ .date) (ℋ .pending) }
+  stays k o h = record {
+    history = ℋ;
+    answers = h;
+    stands = record { date-is = refl; pending-is = refl; schedule-is = refl; played-fits = played-fits; exact = q; reaches = reaches; configuration-is = refl; lamp-is = lamp-is };
+  }
+
+  -- A history with nothing more scheduled, and the monitor that stands for it.
+  stands : (t : ℕ) (rs : List Request) (n : ℕ) (ss : List Slot) → ss ≡ drop n (ℋ .scheduled) → n ≤ length (ℋ .scheduled)
+      → StandsFor 𝒜 (withLamp m (record { date = t; pending = rs; schedule = ss; configuration = monitor .configuration; last = last; lit = shines })) (record { date = t; scheduled = ℋ .scheduled; pending = rs; played = n })
+  unfolding lampLit
+  stands t rs n ss e h = record {
+    date-is = refl;
+    pending-is = refl;
+    schedule-is = e;
+    played-fits = h;
+    exact = q;
+    reaches = reaches;
+    configuration-is = refl;
+    lamp-is = lamp-right 𝒜 bounded m mine (wordOf (ℋ .scheduled)) last q reaches t (actionsOf rs);
+  }
 
   -- Only the date moves.
-  moves : (k : Call) (o : Outcome) (t : ℕ) → Answers 𝒜 ℋ k o (afterDate ℋ t) → Demand2 𝒜 ℋ k (record { outcome = o; monitor = monitorOf 𝒜 (afterDate ℋ t) last q })
-  moves k o t h = record { history = afterDate ℋ t; answers = h; stands = stands t (ℋ .pending) }
+  moves : (k : Call) (o : Outcome) (t : ℕ) → Answers 𝒜 ℋ k o (afterDate ℋ t) → Demand2 𝒜 ℋ k (record { outcome = o; monitor = dated m monitor t })
+  moves k o t h = record { history = afterDate ℋ t; answers = h; stands = stands t (ℋ .pending) (ℋ .played) (schedule ℋ) refl played-fits }
 
   -- ---- Offers
 
@@ -72,7 +89,7 @@ module _ (𝒜 : Automaton) (bounded : Bounded (𝒜 .bytes)) (m : Compiled) (mi
 
     place-right : Passes 𝒜 ℋ c t → (n : ℕ) → prospect m cs standing ≡ ticks n → (u v : Bool) → ltb maxDate (earliest + n) ≡ u → ltb (freeSlots ℋ) (length (joined ℋ c)) ≡ v
         → Demand2 𝒜 ℋ (offer c t) (placed m monitor c t ds (earliest + n) u v)
-    unfolding placed
+    unfolding placed lampLit
     place-right p n e u v x y = go u v x y (Decision.best 𝒜 bounded m mine word last q reaches t cs nonEmpty n e)
       where
         go : (u v : Bool) → ltb maxDate (earliest + n) ≡ u → ltb (freeSlots ℋ) (length (joined ℋ c)) ≡ v → Chosen 𝒜 ℋ c t ds × (lastOf 0 ds ≡ earliest + n)
@@ -85,6 +102,8 @@ module _ (𝒜 : Automaton) (bounded : Bounded (𝒜 .bytes)) (m : Compiled) (mi
             (omega (arith, be .0 .correction .timing .each, actions-length (joined ℋ c), ltb-true (freeSlots ℋ) (length (joined ℋ c)) y)))
         go false false x y be =
             let la = Decision.lands 𝒜 bounded m mine word last q reaches t cs nonEmpty ds (earliest + n) (be .0 .correction) (be .1) in
+            let reaches-on : Reaches 𝒜 (wordOf (ℋ .scheduled ++ place (joined ℋ c) ds)) (earliest + n) (la .0) =
+            subst⁻¹ (λ (w : List Event). Reaches 𝒜 w (earliest + n) (la .0)) (word-append (ℋ .scheduled) (place (joined ℋ c) ds) ∙ ap (λ (v : List Event). word ++ v) (word-place (joined ℋ c) ds)) (la .1) in
             record {
               history = afterSchedule ℋ c t ds;
               answers = subst (λ (l : ℕ). Answers 𝒜 ℋ (offer c t) (scheduled (length ds) l) (afterSchedule ℋ c t ds)) (be .1)
@@ -96,8 +115,10 @@ module _ (𝒜 : Automaton) (bounded : Bounded (𝒜 .bytes)) (m : Compiled) (mi
                 schedule-is = sym (drop-append-le (ℋ .played) (ℋ .scheduled) (place (joined ℋ c) ds) played-fits);
                 played-fits = omega (arith, length-append (ℋ .scheduled) (place (joined ℋ c) ds));
                 exact = la .0;
-                reaches = subst⁻¹ (λ (w : List Event). Reaches 𝒜 w (earliest + n) (la .0)) (word-append (ℋ .scheduled) (place (joined ℋ c) ds) ∙ ap (λ (v : List Event). word ++ v) (word-place (joined ℋ c) ds)) (la .1);
+                reaches = reaches-on;
                 configuration-is = la .2;
+                lamp-is = subst⁻¹ (λ (p : Configuration). (isLit m (advance (max t (earliest + n) - (earliest + n)) p) [] ≡ false) ↔ Dark 𝒜 (afterSchedule ℋ c t ds)) (la .2)
+                    (lamp-right 𝒜 bounded m mine (wordOf (ℋ .scheduled ++ place (joined ℋ c) ds)) (earliest + n) (la .0) reaches-on t []);
               };
             }
 
@@ -107,9 +128,9 @@ module _ (𝒜 : Automaton) (bounded : Bounded (𝒜 .bytes)) (m : Compiled) (mi
     decide-right p extensible e = go (leb maxCount (length (ℋ .pending))) refl
         (Decision.none-extensible 𝒜 bounded m mine word last q reaches t cs nonEmpty e) (Decision.extensible-open 𝒜 bounded m mine word last q reaches t cs nonEmpty e)
       where
-        go : (u : Bool) → leb maxCount (length (ℋ .pending)) ≡ u → Uncorrectable 𝒜 ℋ c t → IsOpen 𝒜 ℋ c t → Demand2 𝒜 ℋ (offer c t) (kept monitor c t u)
+        go : (u : Bool) → leb maxCount (length (ℋ .pending)) ≡ u → Uncorrectable 𝒜 ℋ c t → IsOpen 𝒜 ℋ c t → Demand2 𝒜 ℋ (offer c t) (kept m monitor c t u)
         go true x un op = stays (offer c t) (refused S-4) (full p un op (leb-true maxCount (length (ℋ .pending)) x))
-        go false x un op = record { history = afterHold ℋ c t; answers = Answers.holds p un op (leb-false maxCount (length (ℋ .pending)) x); stands = stands t (joined ℋ c) }
+        go false x un op = record { history = afterHold ℋ c t; answers = Answers.holds p un op (leb-false maxCount (length (ℋ .pending)) x); stands = stands t (joined ℋ c) (ℋ .played) (schedule ℋ) refl played-fits }
     decide-right p dead e =
         moves (offer c t) dropped t
         (Answers.drops p (Decision.none-dead 𝒜 bounded m mine word last q reaches t cs nonEmpty e) (Decision.dead-shut 𝒜 bounded m mine word last q reaches t cs nonEmpty e))
@@ -125,23 +146,23 @@ module _ (𝒜 : Automaton) (bounded : Bounded (𝒜 .bytes)) (m : Compiled) (mi
   -- ---- Collects
 
   module _ (t : ℕ) where
-    take-right : t ≤ maxDate → ℋ .date ≤ t → (e : Slot) (rest : List Slot) → schedule ℋ ≡ e ∷ rest → (u : Bool) → leb (e .date) t ≡ u → Demand2 𝒜 ℋ (collect t) (taken monitor t e rest u)
+    take-right : t ≤ maxDate → ℋ .date ≤ t → (e : Slot) (rest : List Slot) → schedule ℋ ≡ e ∷ rest → (u : Bool) → leb (e .date) t ≡ u → Demand2 𝒜 ℋ (collect t) (taken m monitor t e rest u)
     unfolding taken
     take-right h k e rest x true y =
         let d = drop-next (ℋ .played) (ℋ .scheduled) e rest x in
         record {
           history = afterPlay ℋ t;
           answers = plays h k x (leb-true (e .date) t y);
-          stands = record { date-is = refl; pending-is = refl; schedule-is = sym (d .0); played-fits = d .1; exact = q; reaches = reaches; configuration-is = refl };
+          stands = stands t (ℋ .pending) (suc (ℋ .played)) rest (sym (d .0)) (d .1);
         }
     take-right h k e rest x false y = moves (collect t) nothing t (too-early h k x (leb-false (e .date) t y))
 
-    oldest-right : t ≤ maxDate → ℋ .date ≤ t → (l : List Slot) → schedule ℋ ≡ l → Demand2 𝒜 ℋ (collect t) (oldest monitor t l)
+    oldest-right : t ≤ maxDate → ℋ .date ≤ t → (l : List Slot) → schedule ℋ ≡ l → Demand2 𝒜 ℋ (collect t) (oldest m monitor t l)
     unfolding oldest
     oldest-right h k [] x = moves (collect t) nothing t (empty h k x)
     oldest-right h k (e ∷ rest) x = take-right h k e rest x (leb (e .date) t) refl
 
-    pick-right : (u v : Bool) → ltb maxDate t ≡ u → ltb t (ℋ .date) ≡ v → Demand2 𝒜 ℋ (collect t) (picked monitor t u v)
+    pick-right : (u v : Bool) → ltb maxDate t ≡ u → ltb t (ℋ .date) ≡ v → Demand2 𝒜 ℋ (collect t) (picked m monitor t u v)
     unfolding picked
     pick-right true v x y = stays (collect t) (refused I-8) (late-collect (ltb-true maxDate t x))
     pick-right false true x y = stays (collect t) (refused S-1) (past-collect (ltb-false maxDate t x) (ltb-true t (ℋ .date) y))
@@ -149,28 +170,26 @@ module _ (𝒜 : Automaton) (bounded : Bounded (𝒜 .bytes)) (m : Compiled) (mi
 
   -- ---- The lamp
 
-  of-lit : lampLit m monitor ≡ true → Dark 𝒜 ℋ → ⊥
-  unfolding lampLit
-  of-lit e = lit-right 𝒜 bounded m mine (wordOf (ℋ .scheduled)) last q reaches (ℋ .date) (actionsOf (ℋ .pending)) e
-
-  of-dark : lampLit m monitor ≡ false → Dark 𝒜 ℋ
-  unfolding lampLit
-  of-dark e = dark-right 𝒜 bounded m mine (wordOf (ℋ .scheduled)) last q reaches (ℋ .date) (actionsOf (ℋ .pending)) e
-
-  lamp-right : (u : Bool) → lampLit m monitor ≡ u → Demand2 𝒜 ℋ lamp (record { outcome = cond u lit dark; monitor = monitor })
-  lamp-right true e = stays lamp lit (is-lit (of-lit e))
-  lamp-right false e = stays lamp dark (is-dark (of-dark e))
+  lamp-answers : (x : Bool) → ((x ≡ false) ↔ Dark 𝒜 ℋ) → Demand2 𝒜 ℋ lamp (record { outcome = cond x lit dark; monitor = monitor })
+  lamp-answers true e = stays lamp lit (is-lit (λ g. true-false refl (e .1 g)))
+  lamp-answers false e = stays lamp dark (is-dark (e .0 refl))
 
   answer-of : (k : Call) → Demand2 𝒜 ℋ k (answer m monitor k)
   unfolding answer offered collected
   answer-of (offer c t) = check-right c t (ltb c (m .known)) (ltb maxDate t) (ltb t (ℋ .date)) refl refl refl
   answer-of (collect t) = pick-right t (ltb maxDate t) (ltb t (ℋ .date)) refl refl
-  answer-of lamp = lamp-right (lampLit m monitor) refl
+  answer-of lamp = lamp-answers shines lamp-is
 
 -- ---- Any monitor that stands for a history
 
-stands-is : (𝒜 : Automaton) (ℋ : History) (b : Monitor) (s : StandsFor 𝒜 b ℋ) → b ≡ monitorOf 𝒜 ℋ (b .last) (s .exact)
-stands-is 𝒜 ℋ b s = λ i. record { date = s .date-is i; pending = s .pending-is i; schedule = s .schedule-is i; configuration = s .configuration-is i; last = b .last }
+same-test : {P : Type 0} (x y : Bool) → ((x ≡ false) ↔ P) → ((y ≡ false) ↔ P) → x ≡ y
+same-test true true f g = refl
+same-test true false f g = sym (true-false refl (f .1 (g .0 refl)))
+same-test false true f g = true-false refl (g .1 (f .0 refl))
+same-test false false f g = refl
+
+stands-is : (𝒜 : Automaton) (ℋ : History) (b : Monitor) (s : StandsFor 𝒜 b ℋ) → b ≡ monitorOf 𝒜 ℋ (b .last) (s .exact) (b .lit)
+stands-is 𝒜 ℋ b s = λ i. record { date = s .date-is i; pending = s .pending-is i; schedule = s .schedule-is i; configuration = s .configuration-is i; last = b .last; lit = b .lit }
 
 -- The history of a list of calls on a monitor, and that the monitor after them stands for it.
 pub record Follows (𝒜 : Automaton) (ℋ : History) (ks : List Call) (z : Replayed) : Type 0 where
@@ -181,16 +200,14 @@ pub record Follows (𝒜 : Automaton) (ℋ : History) (ks : List Call) (z : Repl
 module _ (𝒜 : Automaton) (bounded : Bounded (𝒜 .bytes)) (m : Compiled) (mine : CompiledFrom 𝒜 m) where
   pub answer-right : (ℋ : History) (b : Monitor) → StandsFor 𝒜 b ℋ → (k : Call) → Demand2 𝒜 ℋ k (answer m b k)
   answer-right ℋ b s k =
-      subst⁻¹ (λ (z : Monitor). Demand2 𝒜 ℋ k (answer m z k)) (stands-is 𝒜 ℋ b s) (answer-of 𝒜 bounded m mine ℋ (s .played-fits) (b .last) (s .exact) (s .reaches) k)
+      subst⁻¹ (λ (z : Monitor). Demand2 𝒜 ℋ k (answer m z k)) (stands-is 𝒜 ℋ b s) (answer-of 𝒜 bounded m mine ℋ (s .played-fits) (b .last) (s .exact) (s .reaches) (b .lit) (s .lamp-is) k)
 
-  -- The lamp is lit exactly when the lamp rule does not say dark.
-  pub lit-shows : (ℋ : History) (b : Monitor) → StandsFor 𝒜 b ℋ → lampLit m b ≡ true → Dark 𝒜 ℋ → ⊥
-  lit-shows ℋ b s e =
-      of-lit 𝒜 bounded m mine ℋ (s .played-fits) (b .last) (s .exact) (s .reaches) (subst (λ (z : Monitor). lampLit m z ≡ true) (stands-is 𝒜 ℋ b s) e)
-
-  pub dark-shows : (ℋ : History) (b : Monitor) → StandsFor 𝒜 b ℋ → lampLit m b ≡ false → Dark 𝒜 ℋ
-  dark-shows ℋ b s e =
-      of-dark 𝒜 bounded m mine ℋ (s .played-fits) (b .last) (s .exact) (s .reaches) (subst (λ (z : Monitor). lampLit m z ≡ false) (stands-is 𝒜 ℋ b s) e)
+  -- The lamp of a monitor that stands for a history is the one by the rule.
+  pub lamp-rule : (ℋ : History) (b : Monitor) → StandsFor 𝒜 b ℋ → b .lit ≡ lampLit m b
+  unfolding lampLit
+  lamp-rule ℋ b s =
+      same-test (b .lit) (lampLit m b) (s .lamp-is)
+      (subst⁻¹ (λ (z : Monitor). (lampLit m z ≡ false) ↔ Dark 𝒜 ℋ) (stands-is 𝒜 ℋ b s) (lamp-right 𝒜 bounded m mine (wordOf (ℋ .scheduled)) (b .last) (s .exact) (s .reaches) (ℋ .date) (actionsOf (ℋ .pending))))
 
   pub replay-right : (ks : List Call) (ℋ : History) (b : Monitor) → StandsFor 𝒜 b ℋ → Follows 𝒜 ℋ ks (replay m b ks)
   unfolding replay

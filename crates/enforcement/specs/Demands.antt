@@ -1,6 +1,6 @@
 -- What is promised, statement by statement; each is proved in proofs/Promises.antt.
 use mathlib.Core.Path.{_≡_}
-use mathlib.Core.Bool.{Bool, true, false}
+use mathlib.Core.Bool.{Bool, true, false, cond}
 use mathlib.Core.Logic.{_↔_}
 use mathlib.Core.List.{List, _++_}
 use Prim.Native.Nat.{ℕ, _≤_, _<_}
@@ -8,16 +8,17 @@ use lib.ListN.{length}
 use Rattle.enforcement.specs.Limits.{maxDate}
 use Rattle.enforcement.specs.Automaton.{Automaton, Bytes, automaton, actions}
 use Rattle.enforcement.specs.TimedWord.{Configuration, Event, Run, step, origin}
-use Rattle.enforcement.specs.History.{History, wordOf, fresh, schedule, Call, offer, Outcome, dropped, Answers, HistoryOf, Schedulable, Dark}
+use Rattle.enforcement.specs.History.{History, wordOf, fresh, schedule, Call, offer, lamp, Outcome, dropped, lit, dark, Answers, HistoryOf, Schedulable, Dark}
 use Rattle.enforcement.specs.Constraints.{Enforcement}
 use Rattle.enforcement.specs.Model.{compile, saturated, oneClock}
-use Rattle.enforcement.specs.Monitor.{Monitor, freshMonitor, Answered, answer, lampLit, Replayed, replay}
+use Rattle.enforcement.specs.Monitor.{Monitor, freshMonitor, Answered, answer, Replayed, replay}
 
 -- A timed word takes the automaton from its start to the date last and the configuration q.
 abbrev pub Reaches : Automaton → List Event → ℕ → Configuration → Type 0
 Reaches a w last q = Run (step a) (λ e r. (e ≡ last) × (r ≡ q)) (a .loaded) (origin a) w
 
--- The monitor stands for the history: the same date, pending actions and schedule, and the configuration and date that everything ever scheduled reaches.
+-- The monitor stands for the history: the same date, pending actions and schedule, the configuration and date that everything ever scheduled reaches, and a lamp that is dark exactly when document 01's
+-- rule says so.
 pub record StandsFor (a : Automaton) (b : Monitor) (h : History) : Type 0 where
   pub date-is : b .date ≡ h .date
   pub pending-is : b .pending ≡ h .pending
@@ -26,6 +27,7 @@ pub record StandsFor (a : Automaton) (b : Monitor) (h : History) : Type 0 where
   pub exact : Configuration
   pub reaches : Reaches a (wordOf (h .scheduled)) (b .last) exact
   pub configuration-is : b .configuration ≡ saturated (oneClock a) exact
+  pub lamp-is : (b .lit ≡ false) ↔ Dark a h
 
 -- ---- Demand 2: on a monitor that stands for a history, a call answers as the history, and gives a monitor that stands for the history after it.
 pub record Demand2 (a : Automaton) (h : History) (k : Call) (r : Answered) : Type 0 where
@@ -42,9 +44,9 @@ Demand2All a = (h : History) (b : Monitor) → StandsFor a b h → (k : Call) �
 abbrev pub calls : Automaton → List Call → Replayed
 calls a ks = replay (compile a) (freshMonitor a) ks
 
--- The lamp after a list of calls.
+-- The stored lamp after a list of calls.
 abbrev pub lampAfter : Automaton → List Call → Bool
-lampAfter a ks = lampLit (compile a) (calls a ks .monitor)
+lampAfter a ks = calls a ks .monitor .lit
 
 -- An offer that is not refused for its action or date (I-7, I-8 and S-1) by a monitor.
 pub record InTime (a : Automaton) (b : Monitor) (c t : ℕ) : Type 0 where
@@ -53,8 +55,8 @@ pub record InTime (a : Automaton) (b : Monitor) (c t : ℕ) : Type 0 where
   pub current : b .date ≤ t
 
 -- For a list of calls from a fresh monitor of the model: the outcomes are the history's, which is the only one, and the monitor stands for it, with its
--- date, pending actions and schedule; the lamp is lit exactly when no run of further offers could get one more action scheduled, which is document 01's
--- rule; once lit, it is lit after every longer list, and there every offer that is not refused for its action or date is dropped.
+-- date, pending actions and schedule; its stored lamp is lit exactly when no run of further offers could get one more action scheduled, which is document 01's
+-- rule, and a lamp call answers it; once lit, it is lit after every longer list, and there every offer that is not refused for its action or date is dropped.
 pub record ModelDemand3 (a : Automaton) (ks : List Call) : Type 0 where
   pub history : History
   pub recorded : HistoryOf a (fresh a) ks (calls a ks .outcomes) history
@@ -63,6 +65,7 @@ pub record ModelDemand3 (a : Automaton) (ks : List Call) : Type 0 where
   pub lit-is : (lampAfter a ks ≡ true) ↔ (Schedulable a history → ⊥)
   pub dark-is : (lampAfter a ks ≡ false) ↔ Schedulable a history
   pub rule-is : Dark a history ↔ Schedulable a history
+  pub answers-lamp : answer (compile a) (calls a ks .monitor) lamp .outcome ≡ cond (lampAfter a ks) lit dark
   pub stays-lit : lampAfter a ks ≡ true → (more : List Call) → lampAfter a (ks ++ more) ≡ true
   pub drops : lampAfter a ks ≡ true → (more : List Call) (c t : ℕ) → InTime a (calls a (ks ++ more) .monitor) c t → answer (compile a) (calls a (ks ++ more) .monitor) (offer c t) .outcome ≡ dropped
 

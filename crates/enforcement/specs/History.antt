@@ -104,7 +104,7 @@ afterDate h t = record { date = t; scheduled = h .scheduled; pending = h .pendin
 abbrev pub afterPlay : History → ℕ → History
 afterPlay h t = record { date = t; scheduled = h .scheduled; pending = h .pending; played = suc (h .played) }
 
--- Document 01's lamp rule.
+-- Document 01's lamp rule: when the lamp is dark.
 abbrev pub Dark : Automaton → History → Type 0
 Dark a h = Continues a (wordOf (h .scheduled)) (h .date) (actionsOf (h .pending))
 
@@ -139,7 +139,7 @@ pub data HistoryOf (a : Automaton) : History → List Call → List Outcome → 
   end : {h : History} → HistoryOf a h [] [] h
   call : {h h′ h″ : History} {k : Call} {ks : List Call} {o : Outcome} {os : List Outcome} → Answers a h k o h′ → HistoryOf a h′ ks os h″ → HistoryOf a h (k ∷ ks) (o ∷ os) h″
 
--- Demand 3's lamp: some run of further offers from the history's date on, by the enforcement function with room and last date unlimited, gets one more action scheduled.
+-- Demand 3's lamp is dark exactly when some run of further offers from the history's date on, by the enforcement function with room and last date unlimited, gets one more action scheduled.
 pub data Schedulable (a : Automaton) : History → Type 0 where
   schedules : {h : History} (c t : ℕ) (ds : List ℕ) → c < actions (a .bytes) → h .date ≤ t → Corrects a h c t ds → Schedulable a h
   holds : {h : History} (c t : ℕ) → c < actions (a .bytes) → h .date ≤ t → Uncorrectable a h c t → IsOpen a h c t → Schedulable a (afterHold h c t) → Schedulable a h

@@ -10,22 +10,21 @@ use Rattle.enforcement.specs.Automaton.{Automaton}
 use Rattle.enforcement.specs.TimedWord.{Configuration, origin}
 use Rattle.enforcement.specs.Reason.{Reason, I-7, I-8, S-1, S-2, S-3, S-4}
 use Rattle.enforcement.specs.History.{Request, Slot, actionsOf, place, Call, offer, collect, lamp, Outcome, scheduled, held, dropped, played, nothing, lit, dark, refused}
-use Rattle.enforcement.specs.Model.{Prospect, ticks, extensible, dead, Plan, plan, prospect, Compiled, advance, saturated, oneClock}
+use Rattle.enforcement.specs.Model.{Prospect, ticks, extensible, dead, Plan, plan, prospect, Compiled, compile, advance, saturated, oneClock}
 
--- An enforcement monitor (the box) without its automaton: its date, the pending actions (the held list), the schedule, and the configuration and date reached by the last event ever scheduled.
+-- An enforcement monitor (the box) without its automaton: its date, the pending actions (the held list), the schedule, the configuration and date reached by the last event ever scheduled, and whether
+-- its lamp is lit.
 pub record Monitor : Type 0 where
   pub date : ℕ
   pub pending : List Request
   pub schedule : List Slot
   pub configuration : Configuration
   pub last : ℕ
+  pub lit : Bool
 
 pub record Answered : Type 0 where
   pub outcome : Outcome
   pub monitor : Monitor
-
-abbrev pub freshMonitor : Automaton → Monitor
-freshMonitor a = record { date = a .loaded; pending = []; schedule = []; configuration = saturated (oneClock a) (origin a); last = a .loaded }
 
 -- The configuration after actions at dates.
 abbrev pub walkOn : Option Configuration → (Configuration → Configuration) → Configuration → Configuration
@@ -45,65 +44,6 @@ earliest b t = max t (b .last)
 abbrev pub standing : Monitor → ℕ → Configuration
 standing b t = advance (earliest b t - b .last) (b .configuration)
 
-abbrev pub same : Monitor → Reason → Answered
-same b r = record { outcome = refused r; monitor = b }
-
--- Only the date moves.
-abbrev pub dated : Monitor → ℕ → Monitor
-dated b t = record { date = t; pending = b .pending; schedule = b .schedule; configuration = b .configuration; last = b .last }
-
--- The pending actions with c added at their end.
-abbrev pub joins : Monitor → ℕ → List Request
-joins b c = b .pending ++ (record { action = c } ∷ [])
-
--- Case 1, by whether it ends too late and whether it has too many actions.
-unfoldable pub placed : Compiled → Monitor → ℕ → ℕ → List ℕ → ℕ → Bool → Bool → Answered
-placed m b c t ds last true many = same b S-2
-placed m b c t ds last false true = same b S-3
-placed m b c t ds last false false = record {
-  outcome = scheduled (length ds) last;
-  monitor = record { date = t; pending = []; schedule = b .schedule ++ place (joins b c) ds; configuration = walk (m .step) (actionsOf (joins b c)) ds (earliest b t) (standing b t); last = last };
-}
-
--- Case 2, by whether the pending actions are too many.
-unfoldable pub kept : Monitor → ℕ → ℕ → Bool → Answered
-kept b c t true = same b S-4
-kept b c t false = record { outcome = held; monitor = record { date = t; pending = joins b c; schedule = b .schedule; configuration = b .configuration; last = b .last } }
-
-unfoldable pub decided : Compiled → Monitor → ℕ → ℕ → (Configuration → ℕ → List ℕ) → Prospect → Answered
-decided m b c t g (ticks n) =
-    let ds : List ℕ = g (standing b t) (earliest b t) in
-    placed m b c t ds (earliest b t + n) (ltb maxDate (earliest b t + n)) (ltb (maxScheduled - length (b .schedule)) (length (joins b c)))
-decided m b c t g extensible = kept b c t (leb maxCount (length (b .pending)))
-decided m b c t g dead = record { outcome = dropped; monitor = dated b t }
-
--- By whether the action is known, the date too late, and past.
-unfoldable pub checked : Compiled → Monitor → ℕ → ℕ → Bool → Bool → Bool → Answered
-checked m b c t false late past = same b I-7
-checked m b c t true true past = same b I-8
-checked m b c t true false true = same b S-1
-checked m b c t true false false = let pl : Plan = plan m (actionsOf (joins b c)) in decided m b c t (pl .dates) (pl .prospect (standing b t))
-
-unfoldable pub offered : Compiled → Monitor → ℕ → ℕ → Answered
-offered m b c t = checked m b c t (ltb c (m .known)) (ltb maxDate t) (ltb t (b .date))
-
--- The oldest scheduled event, by whether its date has come.
-unfoldable pub taken : Monitor → ℕ → Slot → List Slot → Bool → Answered
-taken b t e rest true = record { outcome = played (e .request .action) (e .date); monitor = record { date = t; pending = b .pending; schedule = rest; configuration = b .configuration; last = b .last } }
-taken b t e rest false = record { outcome = nothing; monitor = dated b t }
-
-unfoldable pub oldest : Monitor → ℕ → List Slot → Answered
-oldest b t [] = record { outcome = nothing; monitor = dated b t }
-oldest b t (e ∷ rest) = taken b t e rest (leb (e .date) t)
-
-unfoldable pub picked : Monitor → ℕ → Bool → Bool → Answered
-picked b t true past = same b I-8
-picked b t false true = same b S-1
-picked b t false false = oldest b t (b .schedule)
-
-unfoldable pub collected : Monitor → ℕ → Answered
-collected b t = picked b t (ltb maxDate t) (ltb t (b .date))
-
 abbrev pub isDead : Prospect → Bool
 isDead (ticks n) = false
 isDead extensible = false
@@ -119,14 +59,80 @@ unfoldable pub isLit : Compiled → Configuration → List ℕ → Bool
 isLit m p [] = noneNext m p (m .known)
 isLit m p (c ∷ cs) = isDead (prospect m (c ∷ cs) p)
 
--- The lamp of a monitor.
+-- The lamp by the rule, of a monitor's date, pending actions and configuration.
 unfoldable pub lampLit : Compiled → Monitor → Bool
 lampLit m b = isLit m (standing b (b .date)) (actionsOf (b .pending))
 
+-- The monitor with its lamp by the rule.
+abbrev pub withLamp : Compiled → Monitor → Monitor
+withLamp m b = record { date = b .date; pending = b .pending; schedule = b .schedule; configuration = b .configuration; last = b .last; lit = lampLit m b }
+
+abbrev pub freshMonitor : Automaton → Monitor
+freshMonitor a = withLamp (compile a) (record { date = a .loaded; pending = []; schedule = []; configuration = saturated (oneClock a) (origin a); last = a .loaded; lit = false })
+
+abbrev pub same : Monitor → Reason → Answered
+same b r = record { outcome = refused r; monitor = b }
+
+-- Only the date moves, and the lamp with it.
+abbrev pub dated : Compiled → Monitor → ℕ → Monitor
+dated m b t = withLamp m (record { date = t; pending = b .pending; schedule = b .schedule; configuration = b .configuration; last = b .last; lit = b .lit })
+
+-- The pending actions with c added at their end.
+abbrev pub joins : Monitor → ℕ → List Request
+joins b c = b .pending ++ (record { action = c } ∷ [])
+
+-- Case 1, by whether it ends too late and whether it has too many actions.
+unfoldable pub placed : Compiled → Monitor → ℕ → ℕ → List ℕ → ℕ → Bool → Bool → Answered
+placed m b c t ds last true many = same b S-2
+placed m b c t ds last false true = same b S-3
+placed m b c t ds last false false = record {
+  outcome = scheduled (length ds) last;
+  monitor = withLamp m (record { date = t; pending = []; schedule = b .schedule ++ place (joins b c) ds; configuration = walk (m .step) (actionsOf (joins b c)) ds (earliest b t) (standing b t); last = last; lit = b .lit });
+}
+
+-- Case 2, by whether the pending actions are too many.
+unfoldable pub kept : Compiled → Monitor → ℕ → ℕ → Bool → Answered
+kept m b c t true = same b S-4
+kept m b c t false = record { outcome = held; monitor = withLamp m (record { date = t; pending = joins b c; schedule = b .schedule; configuration = b .configuration; last = b .last; lit = b .lit }) }
+
+unfoldable pub decided : Compiled → Monitor → ℕ → ℕ → (Configuration → ℕ → List ℕ) → Prospect → Answered
+decided m b c t g (ticks n) =
+    let ds : List ℕ = g (standing b t) (earliest b t) in
+    placed m b c t ds (earliest b t + n) (ltb maxDate (earliest b t + n)) (ltb (maxScheduled - length (b .schedule)) (length (joins b c)))
+decided m b c t g extensible = kept m b c t (leb maxCount (length (b .pending)))
+decided m b c t g dead = record { outcome = dropped; monitor = dated m b t }
+
+-- By whether the action is known, the date too late, and past.
+unfoldable pub checked : Compiled → Monitor → ℕ → ℕ → Bool → Bool → Bool → Answered
+checked m b c t false late past = same b I-7
+checked m b c t true true past = same b I-8
+checked m b c t true false true = same b S-1
+checked m b c t true false false = let pl : Plan = plan m (actionsOf (joins b c)) in decided m b c t (pl .dates) (pl .prospect (standing b t))
+
+unfoldable pub offered : Compiled → Monitor → ℕ → ℕ → Answered
+offered m b c t = checked m b c t (ltb c (m .known)) (ltb maxDate t) (ltb t (b .date))
+
+-- The oldest scheduled event, by whether its date has come.
+unfoldable pub taken : Compiled → Monitor → ℕ → Slot → List Slot → Bool → Answered
+taken m b t e rest true = record { outcome = played (e .request .action) (e .date); monitor = withLamp m (record { date = t; pending = b .pending; schedule = rest; configuration = b .configuration; last = b .last; lit = b .lit }) }
+taken m b t e rest false = record { outcome = nothing; monitor = dated m b t }
+
+unfoldable pub oldest : Compiled → Monitor → ℕ → List Slot → Answered
+oldest m b t [] = record { outcome = nothing; monitor = dated m b t }
+oldest m b t (e ∷ rest) = taken m b t e rest (leb (e .date) t)
+
+unfoldable pub picked : Compiled → Monitor → ℕ → Bool → Bool → Answered
+picked m b t true past = same b I-8
+picked m b t false true = same b S-1
+picked m b t false false = oldest m b t (b .schedule)
+
+unfoldable pub collected : Compiled → Monitor → ℕ → Answered
+collected m b t = picked m b t (ltb maxDate t) (ltb t (b .date))
+
 unfoldable pub answer : Compiled → Monitor → Call → Answered
 answer m b (offer c t) = offered m b c t
-answer m b (collect t) = collected b t
-answer m b lamp = record { outcome = cond (lampLit m b) lit dark; monitor = b }
+answer m b (collect t) = collected m b t
+answer m b lamp = record { outcome = cond (b .lit) lit dark; monitor = b }
 
 pub record Replayed : Type 0 where
   pub outcomes : List Outcome

@@ -22,7 +22,7 @@ fn main() {
     liveness::two_clocks();
     optimum::one_clock();
     optimum::two_clocks();
-    outlook::short();
+    outlook::single();
     outlook::lists();
     outlook::two_clocks();
     lamp::all();

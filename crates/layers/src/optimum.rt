@@ -49,9 +49,12 @@ fn dated<'a>(s: &'a [u8], cs: &'a [u8], l: u8, x: u8, y: u8, t: u32)
     print_plan(p, &out[..cs.len()]);
 }
 
-// Commands from a configuration and a date on.
+// One command or more, from a configuration and a date on.
 fn plan<'a>(s: &'a [u8], cs: &'a [u8], l: u8, x: u8, y: u8, t: u32) {
     if !guarded::stands(s, l, x, y) {
+        return;
+    }
+    if cs.len() == 0 {
         return;
     }
     if Monitor::BATCH < cs.len() {
@@ -66,7 +69,7 @@ fn plan<'a>(s: &'a [u8], cs: &'a [u8], l: u8, x: u8, y: u8, t: u32) {
     match o {
         Outlook::Correct => dated(s, cs, l, x, y, t),
         Outlook::Extensible => print::word(b"extensible\n"),
-        Outlook::Dead => print::word(b"dead\n"),
+        Outlook::Dead { lit } => print::dead(lit),
     }
 }
 

@@ -6,15 +6,20 @@ use retimer::outlook::Outlook;
 use retimer::reach;
 
 fn print_outlook(o: Outlook) {
+    print::word(b": ");
     match o {
-        Outlook::Correct => print::word(b": correct\n"),
-        Outlook::Extensible => print::word(b": extensible\n"),
-        Outlook::Dead => print::word(b": dead\n"),
+        Outlook::Correct => print::word(b"correct\n"),
+        Outlook::Extensible => print::word(b"extensible\n"),
+        Outlook::Dead { lit } => print::dead(lit),
     }
 }
 
+// Of a list of one command or more.
 fn comes_to<'a>(s: &'a [u8], cs: &'a [u8], l: u8, x: u8, y: u8) {
     if !guarded::stands(s, l, x, y) {
+        return;
+    }
+    if cs.len() == 0 {
         return;
     }
     let table = liveness::live_table(s);
@@ -24,14 +29,10 @@ fn comes_to<'a>(s: &'a [u8], cs: &'a [u8], l: u8, x: u8, y: u8) {
     print_outlook(reach::outlook_of(s, &counts, cs, l, [x, y]));
 }
 
-// After no command, and after one.
-pub fn short() {
+// After one command.
+pub fn single() {
     let b = course::sheet_b();
-    comes_to(&b, b"", 2, 10, 31);
-    comes_to(&b, b"", 1, 15, 31);
-    comes_to(&b, b"", 1, 16, 31);
     comes_to(&b, b"\x00", 0, 31, 31);
-    let b = course::sheet_b();
     comes_to(&b, b"\x01", 0, 0, 31);
     comes_to(&b, b"\x01", 1, 0, 31);
     comes_to(&b, b"\x01", 1, 16, 31);
@@ -41,6 +42,7 @@ pub fn lists() {
     let b = course::sheet_b();
     comes_to(&b, b"\x00\x01", 0, 5, 31);
     comes_to(&b, b"\x00\x00", 0, 5, 31);
+    comes_to(&b, b"\x00\x00\x01", 0, 5, 31);
     let c = course::sheet_c();
     comes_to(&c, b"\x00\x01", 0, 8, 31);
     comes_to(&c, b"\x00\x01", 0, 9, 31);
@@ -60,5 +62,7 @@ pub fn two_clocks() {
     comes_to(&s, b"\x00", 0, 8, 8);
     comes_to(&s, b"\x00\x01", 0, 7, 7);
     comes_to(&s, b"\x00\x01", 0, 8, 8);
+    comes_to(&s, b"\x00\x00", 0, 7, 7);
+    comes_to(&s, b"\x00\x00", 0, 8, 8);
     comes_to(&s, b"\x01", 1, 0, 7);
 }

@@ -26,6 +26,15 @@ pub fn configuration(l: u8, x: u8, y: u8) {
     byte(y);
 }
 
+// That a list is dead, and the lamp without its last command.
+pub fn dead(lit: bool) {
+    if lit {
+        word(b"dead, lit\n");
+        return;
+    }
+    word(b"dead, dark\n");
+}
+
 // A truth value as 1 or 0, and the line's end.
 pub fn truth(b: bool) {
     if b {

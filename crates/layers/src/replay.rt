@@ -49,7 +49,8 @@ fn print_state(q: State) {
     print_schedule(q);
     print::word(b"; last");
     print_last(q);
-    print::word(b"\n");
+    print::word(b"; lamp");
+    print::truth(q.lit);
 }
 
 // The calls of a text on a fresh box of a sheet.

@@ -58,8 +58,8 @@ lines-split m b n [] ls = let z : n + 0 ≡ n = omega arith in rw z
 lines-split m b n (k ∷ ks) ls =
     let z : n + suc (length ks) ≡ suc n + length ks = omega arith in
     rw z
-    (ap (λ (t : List ℕ). lineOf m (suc n) (answer m b k) ++ t) (lines-split m (answer m b k .monitor) (suc n) ks ls)
-    ∙ sym (append-assoc (lineOf m (suc n) (answer m b k)) (linesOf m (answer m b k .monitor) (suc n) ks) (linesOf m (replay m (answer m b k .monitor) ks .monitor) (suc n + length ks) ls)))
+    (ap (λ (t : List ℕ). lineOf (suc n) (answer m b k) ++ t) (lines-split m (answer m b k .monitor) (suc n) ks ls)
+    ∙ sym (append-assoc (lineOf (suc n) (answer m b k)) (linesOf m (answer m b k .monitor) (suc n) ks) (linesOf m (replay m (answer m b k .monitor) ks .monitor) (suc n + length ks) ls)))
 
 -- ---- Blocks
 

@@ -1,7 +1,7 @@
 -- The loop that marks a block of calls follows the model.
 -- Assumes nothing.
 use mathlib.Core.Path.{_≡_, refl, sym, ap, _∙_}
-use mathlib.Core.Bool.{Bool, true, false, cond}
+use mathlib.Core.Bool.{Bool, true, false}
 use mathlib.Core.List.{List, [], _∷_, _++_, append-assoc, append-nil}
 use Prim.Native.Nat.{ℕ, suc, _+_, _-_, _*_, _/_, _%_, _≤_, _<_}
 use native.Mathlib.Omega.{arith}
@@ -11,9 +11,9 @@ use lib.Dec.{lit<}
 use lib.ListN.{length, length-append}
 use lib.Seq.{length-take-le}
 use Rattle.enforcement.specs.Automaton.{Bytes}
-use Rattle.enforcement.specs.History.{Call, lamp, lit, dark}
+use Rattle.enforcement.specs.History.{Call}
 use Rattle.enforcement.specs.Model.{Compiled}
-use Rattle.enforcement.specs.Monitor.{lampLit, answer, replay}
+use Rattle.enforcement.specs.Monitor.{answer, replay}
 use Rattle.enforcement.specs.Monitor as model
 use Rattle.report.specs.Texts.{ascii, numeral, Wrote}
 use Rattle.report.specs.Lines.{outcomeText, answerText, callLine, lampText, tailLine}
@@ -29,7 +29,7 @@ use Rattle.retimer.specs.Optimum.{modelOf}
 use Rattle.retimer.specs.View.{bytesOf, view, viewOf, StateValid, Sound, Valid}
 use Rattle.retimer.specs.Calls.{outcomeOf, movedOf, withState, MoveRight}
 use Rattle.retimer.specs.Replay.{callAt, callsFrom, callsOf}
-use Rattle.retimer.proofs.CallLaws.{valid-state, valid-box}
+use Rattle.retimer.proofs.CallLaws.{view-lit, valid-state, valid-box}
 use Rattle.marking.specs.Marks.{lineOf, linesOf, MarkRight}
 
 -- ---- One line
@@ -44,13 +44,6 @@ held-text Nothing h e = refl
 held-text Lit h e = refl
 held-text Dark h e = refl
 held-text (Refused r) h e = refl
-
--- The answer tells whether the lamp is lit.
-lit-told : (x y : Bool) → outcomeOf (cond x Lit Dark) ≡ cond y lit dark → x ≡ y
-lit-told true true e = refl
-lit-told true false e = let z : _≡_ {A = ℕ} 0 1 = cc in absurd (omega arith)
-lit-told false true e = let z : _≡_ {A = ℕ} 0 1 = cc in absurd (omega arith)
-lit-told false false e = refl
 
 lamp-few : (x : Bool) → length (lampText x) ≡ 8
 lamp-few true = refl
@@ -69,20 +62,15 @@ line-few n a x =
     )
 
 -- The line of a call and the lamp after it is the model's.
-module _ (m : Compiled) (b : model.Monitor) (k : Call) (r : Moved) (x : Bool) (n : ℕ) (is : movedOf r ≡ answer m b k) (held-count : (h : ℕ) → r .answer ≡ Held h → h ≡ length (view (r .state) .pending))
-    (light : movedOf (record { state = r .state; answer = cond x Lit Dark }) ≡ answer m (view (r .state)) lamp) where
+module _ (m : Compiled) (b : model.Monitor) (k : Call) (r : Moved) (n : ℕ) (is : movedOf r ≡ answer m b k) (held-count : (h : ℕ) → r .answer ≡ Held h → h ≡ length (view (r .state) .pending)) where
   text-is : answerText (r .answer) ≡ outcomeText (length (answer m b k .monitor .pending)) (answer m b k .outcome)
   text-is = held-text (r .answer) (length (view (r .state) .pending)) held-count ∙ ap (λ (w : model.Answered). outcomeText (length (w .monitor .pending)) (w .outcome)) is
 
-  light-is : x ≡ lampLit m (answer m b k .monitor)
-  unfolding answer
-  light-is = lit-told x (lampLit m (view (r .state))) (ap (λ (w : model.Answered). w .outcome) light) ∙ ap (λ (w : model.Answered). lampLit m (w .monitor)) is
-
-  pub line-is : callLine (n + 1) (answerText (r .answer)) x ≡ lineOf m (suc n) (answer m b k)
+  pub line-is : callLine (n + 1) (answerText (r .answer)) (r .state .lit) ≡ lineOf (suc n) (answer m b k)
   line-is =
-      ap (λ (j : ℕ). callLine j (answerText (r .answer)) x) (add-one n)
-      ∙ ap (λ (t : List ℕ). callLine (suc n) t x) text-is
-      ∙ ap (callLine (suc n) (outcomeText (length (answer m b k .monitor .pending)) (answer m b k .outcome))) light-is
+      ap (λ (j : ℕ). callLine j (answerText (r .answer)) (r .state .lit)) (add-one n)
+      ∙ ap (λ (t : List ℕ). callLine (suc n) t (r .state .lit)) text-is
+      ∙ ap (callLine (suc n) (outcomeText (length (answer m b k .monitor .pending)) (answer m b k .outcome))) (view-lit (r .state) (ap (λ (w : model.Answered). w .monitor) is))
 
 -- ---- The loop
 
@@ -144,26 +132,22 @@ module _ {start : Monitor} {s : Bytes} {n : ℕ} {before out : List ℕ} {q : St
   unfolding callsFrom k
   unrolled = ap (λ (j : ℕ). callsFrom s j i) left
 
-  module _ {r : Moved} (x : Bool) (right : MoveRight (bytesOf start) (start .live) q (callAt s i) r) (lamp-right : MoveRight (bytesOf start) (start .live) (r .state) lamp (record { state = r .state; answer = cond x Lit Dark })) where
+  module _ {r : Moved} (right : MoveRight (bytesOf start) (start .live) q (callAt s i) r) where
     is : movedOf r ≡ answer m (view q) k
     unfolding m k
     is = right .is
-
-    light : movedOf (record { state = r .state; answer = cond x Lit Dark }) ≡ answer m (view (r .state)) lamp
-    unfolding m
-    light = lamp-right .is
 
     view-is : view (r .state) ≡ answer m (view q) k .monitor
     view-is = ap (λ (w : model.Answered). w .monitor) is
 
     line : List ℕ
-    line = callLine (made + 1) (answerText (r .answer)) x
+    line = callLine (made + 1) (answerText (r .answer)) (r .state .lit)
 
     lines-split : linesOf m (view q) made (callsFrom s (length s / 5 - g .done) i) ≡ line ++ linesOf m (view (r .state)) (made + 1) (callsFrom s (length s / 5 - (g .done + 1)) (i + 5))
     unfolding linesOf line
     lines-split =
         ap (linesOf m (view q) made) unrolled
-        ∙ ap (λ (t : List ℕ). t ++ linesOf m (answer m (view q) k .monitor) (suc made) (callsFrom s (length s / 5 - (g .done + 1)) (i + 5))) (sym (line-is m (view q) k r x made is (right .held-count) light))
+        ∙ ap (λ (t : List ℕ). t ++ linesOf m (answer m (view q) k .monitor) (suc made) (callsFrom s (length s / 5 - (g .done + 1)) (i + 5))) (sym (line-is m (view q) k r made is (right .held-count)))
         ∙ ap (λ (v : model.Monitor). line ++ linesOf m v (suc made) (callsFrom s (length s / 5 - (g .done + 1)) (i + 5))) (sym view-is)
         ∙ ap (λ (j : ℕ). line ++ linesOf m (view (r .state)) j (callsFrom s (length s / 5 - (g .done + 1)) (i + 5))) (sym (add-one made))
 
@@ -174,7 +158,7 @@ module _ {start : Monitor} {s : Bytes} {n : ℕ} {before out : List ℕ} {q : St
         ∙ ap (λ (v : model.Monitor). replay m v (callsFrom s (length s / 5 - (g .done + 1)) (i + 5)) .monitor) (sym view-is)
 
     pub goes-on : {out′ : List ℕ} {end′ : ℕ} → 80 * (length s / 5) + 80 ≤ length before
-        → Wrote out end (callLine (made + 1) (answerText (r .answer)) x) out′ end′ → length out′ ≡ length out
+        → Wrote out end (callLine (made + 1) (answerText (r .answer)) (r .state .lit)) out′ end′ → length out′ ≡ length out
         → Marking start s n before out′ (r .state) (made + 1) end′ (i + 5)
     unfolding m line
     goes-on {out′} {end′} room wrote kept = record {
@@ -184,7 +168,7 @@ module _ {start : Monitor} {s : Bytes} {n : ℕ} {before out : List ℕ} {q : St
       made-is = omega (arith, g .made-is);
       text = g .text ++ line;
       wrote = next (omega (arith, g .few, g .inside)) (g .wrote) wrote;
-      few = omega (arith, wrote .ends, g .few, line-few (made + 1) (r .answer) x);
+      few = omega (arith, wrote .ends, g .few, line-few (made + 1) (r .answer) (r .state .lit));
       lines = append-assoc (g .text) line _ ∙ ap (λ (t : List ℕ). g .text ++ t) (sym lines-split) ∙ g .lines;
       monitor = sym monitor-split ∙ g .monitor;
       valid = right .valid;

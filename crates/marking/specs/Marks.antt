@@ -1,17 +1,18 @@
 -- What marking a list of calls writes, from the model of the box.
 use mathlib.Core.Path.{_≡_}
-use mathlib.Core.Bool.{cond, _||_}
+use mathlib.Core.Bool.{Bool, false, cond, _||_}
+use mathlib.Core.Logic.{_↔_}
 use mathlib.Core.List.{List, [], _∷_, _++_}
 use Prim.Native.Nat.{ℕ, suc, _+_, _/_, _%_}
 use lib.Dec.{ltb}
 use lib.ListN.{length, take, drop}
 use Rattle.enforcement.specs.Limits.{maxSize}
-use Rattle.enforcement.specs.Automaton.{Bytes, automaton, word}
+use Rattle.enforcement.specs.Automaton.{Bytes, Automaton, automaton, word}
 use Rattle.enforcement.specs.Loading.{check}
 use Rattle.enforcement.specs.Loading as loading
-use Rattle.enforcement.specs.History.{Call}
+use Rattle.enforcement.specs.History.{History, Call, Outcome, Answers, Dark}
 use Rattle.enforcement.specs.Model.{Compiled}
-use Rattle.enforcement.specs.Monitor.{freshMonitor, lampLit, answer, replay}
+use Rattle.enforcement.specs.Monitor.{freshMonitor, answer, replay}
 use Rattle.enforcement.specs.Monitor as model
 use Rattle.io.specs.Counts.{Counts}
 use Rattle.report.specs.Texts.{Wrote}
@@ -23,14 +24,20 @@ use Rattle.retimer.specs.Calls.{withState}
 use Rattle.retimer.specs.Replay.{callsOf}
 use Rattle.marking.specs.declared.block.Marked.{Marked}
 
--- The line of the call number n: what it answers, with the held list's length, and the lamp after it.
-abbrev pub lineOf : Compiled → ℕ → model.Answered → List ℕ
-lineOf m n w = callLine n (outcomeText (length (w .monitor .pending)) (w .outcome)) (lampLit m (w .monitor))
+-- The line of the call number n: what it answers, with the held list's length, and the lamp that is stored after it.
+abbrev pub lineOf : ℕ → model.Answered → List ℕ
+lineOf n w = callLine n (outcomeText (length (w .monitor .pending)) (w .outcome)) (w .monitor .lit)
 
 -- The lines of calls, where n calls came before.
 unfoldable pub linesOf : Compiled → model.Monitor → ℕ → List Call → List ℕ
 linesOf m b n [] = []
-linesOf m b n (k ∷ ks) = lineOf m (suc n) (answer m b k) ++ linesOf m (answer m b k .monitor) (suc n) ks
+linesOf m b n (k ∷ ks) = lineOf (suc n) (answer m b k) ++ linesOf m (answer m b k .monitor) (suc n) ks
+
+-- The lines of calls by the history alone: what each call answers, with the number of pending actions after it, and a lamp that is 0 exactly when document 01's rule says dark after it.
+pub data Told (a : Automaton) : History → ℕ → List Call → List ℕ → Type 0 where
+  end : {h : History} {n : ℕ} → Told a h n [] []
+  call : {h h′ : History} {n : ℕ} {k : Call} {ks : List Call} {o : Outcome} {x : Bool} {text : List ℕ} → Answers a h k o h′ → ((x ≡ false) ↔ Dark a h′) → Told a h′ (suc n) ks text
+      → Told a h n (k ∷ ks) (callLine (suc n) (outcomeText (length (h′ .pending)) o) x ++ text)
 
 -- The lines of a block of bytes: those of its whole calls, and one for bytes left over.
 abbrev pub blockText : Compiled → model.Monitor → ℕ → Bytes → List ℕ

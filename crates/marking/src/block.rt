@@ -39,7 +39,7 @@ pub fn mark(start: Monitor, calls: &[u8], n: u64, out: &mut [u8]) -> Marked
         let called = replay::call_at(&sheet[..size], live, state, calls, i);
         let answer = called.answer;
         state = called.state;
-        let lit = state.is_lit(&sheet[..size], live);
+        let lit = state.lit;
         made += 1;
         end = line::call_line(out, end, made, answer, lit);
         i += CALL;

@@ -3,54 +3,63 @@
 use mathlib.Core.Path.{_≡_, refl, ap, sym, _∙_, subst⁻¹}
 use mathlib.Core.Bool.{Bool, true, false, cond}
 use mathlib.Core.List.{List, [], _∷_, _++_}
-use Prim.Native.Nat.{ℕ, _≤_, _<_}
+use Prim.Native.Nat.{ℕ, _+_, _-_, _≤_, _<_, max}
 use native.Mathlib.Omega.{arith}
-use lib.Dec.{ltb}
+use lib.Dec.{leb, ltb}
 use lib.ListN.{length}
 use lib.Seq.{length-take-le}
 use borrow.Author.Tests.{lt-ltb, le-ltb}
-use Rattle.enforcement.specs.Limits.{maxDate}
-use Rattle.enforcement.specs.Automaton.{Bytes, automaton, actions}
-use Rattle.enforcement.specs.History.{History, Call, offer, collect, lamp}
-use Rattle.enforcement.specs.Model.{Compiled, compile}
-use Rattle.enforcement.specs.Monitor.{checked, offered, oldest, picked, collected, lampLit, answer, freshMonitor, replay}
+use Rattle.enforcement.specs.Limits.{maxCount, maxScheduled, maxDate}
+use Rattle.enforcement.specs.Automaton.{Bytes, Automaton, automaton, actions}
+use Rattle.enforcement.specs.TimedWord.{Configuration}
+use Rattle.enforcement.specs.History.{History, fresh, actionsOf, dropped, Call, offer, collect, lamp, end, call}
+use Rattle.enforcement.specs.History as history
+use Rattle.enforcement.specs.Model.{Prospect, ticks, extensible, dead, Compiled, compile, advance}
+use Rattle.enforcement.specs.Monitor.{isLit, lampLit, earliest, standing, joins, dated, placed, kept, decided, checked, offered, taken, oldest, picked, collected, answer}
 use Rattle.enforcement.specs.Monitor as model
-use Rattle.enforcement.specs.Demands.{StandsFor, Demand2, Demand2All, calls}
+use Rattle.enforcement.specs.Demands.{StandsFor, Demand2, Demand2All, InTime}
 use Rattle.enforcement.proofs.Loading.{bounded}
-use Rattle.enforcement.proofs.Model.{replay-append}
-use Rattle.enforcement.proofs.Promises.{demand-2}
+use Rattle.enforcement.proofs.Histories.{history-append}
+use Rattle.enforcement.proofs.Progress.{history-lit}
+use Rattle.enforcement.proofs.Model.{lit-shows, not-dark-lit, lamp-rule}
+use Rattle.enforcement.proofs.Promises.{demand-2, exhausted-drops}
 use Rattle.retimer.specs.declared.limits.State.{State}
 use Rattle.retimer.specs.declared.limits.Monitor.{Monitor}
-use Rattle.retimer.specs.declared.state.Answer.the-variants.{Lit, Dark, Refused}
+use Rattle.retimer.specs.declared.state.Answer.the-variants.{Dropped, Lit, Dark, Refused}
 use Rattle.retimer.specs.declared.state.Moved.{Moved}
 use Rattle.retimer.specs.declared.reason.Reason.the-variants.{I7, I8, S1}
+use Rattle.retimer.specs.Readings.{located}
 use Rattle.retimer.specs.Optimum.{modelOf}
-use Rattle.retimer.specs.View.{bytesOf, view, Sound, StateValid, Valid}
-use Rattle.retimer.specs.Calls.{movedOf, withState, Done, MoveRight, CallRight}
-use Rattle.retimer.proofs.Views.{done-same, refused-done, plain-done}
+use Rattle.retimer.specs.View.{bytesOf, view, Sound, Recorded, StateValid, Valid}
+use Rattle.retimer.specs.Calls.{movedOf, movedTo, lampAt, withState, Done, MoveRight, CallRight}
+use Rattle.retimer.proofs.Views.{answering, done-same, refused-done, plain-done, dropped-done}
 
 -- ---- From the parts to the call
 
+pub view-lit : (q : State) {v : model.Monitor} → view q ≡ v → q .lit ≡ v .lit
+unfolding view
+view-lit q e = ap (λ (x : model.Monitor). x .lit) e
+
 -- One more call.
-replay-one : (m : Compiled) (v : model.Monitor) (ks : List Call) (k : Call) → replay m v (ks ++ (k ∷ [])) .monitor ≡ answer m (replay m v ks .monitor) k .monitor
-unfolding replay
-replay-one m v ks k = replay-append m ks (k ∷ []) v
+recorded-more : {a : Automaton} {v : model.Monitor} {k : Call} {w : model.Answered} (r : Recorded a v) → Demand2 a (r .history) k w → Recorded a (w .monitor)
+recorded-more {a} {v} {k} {w} r d = record {
+  past = r .past ++ (k ∷ []);
+  outcomes = r .outcomes ++ (w .outcome ∷ []);
+  history = d .history;
+  recorded = history-append a (fresh a) (r .history) (d .history) (r .past) (k ∷ []) (r .outcomes) (w .outcome ∷ []) (r .recorded) (call (d .answers) end);
+  stands = d .stands;
+}
 
 module _ {s : Bytes} {live : List ℕ} {q : State} (v : StateValid s live q) (k : Call) (r : Moved) where
   demand : movedOf r ≡ answer (modelOf s) (view q) k → (h : History) → StandsFor (automaton s) (view q) h → Demand2 (automaton s) h k (movedOf r)
   unfolding Demand2All
   demand e h f = subst⁻¹ (λ (w : model.Answered). Demand2 (automaton s) h k w) e (demand-2 (automaton s) (bounded s (v .sound .loads)) h (view q) f k)
 
-  reached-more : Done s live q (answer (modelOf s) (view q) k) r → view (r .state) ≡ calls (automaton s) (v .past ++ (k ∷ [])) .monitor
-  reached-more d =
-      ap (λ (w : model.Answered). w .monitor) (d .is) ∙ ap (λ (w : model.Monitor). answer (modelOf s) w k .monitor) (v .reached)
-      ∙ sym (replay-one (modelOf s) (freshMonitor (automaton s)) (v .past) k)
-
   done-right : Done s live q (answer (modelOf s) (view q) k) r → MoveRight s live q k r
   done-right d = record {
     is = d .is;
     rule = demand (d .is);
-    valid = record { sound = d .sound; past = v .past ++ (k ∷ []); reached = reached-more d };
+    valid = record { sound = d .sound; recorded = recorded-more (v .recorded) (demand (d .is) (v .recorded .history) (v .recorded .stands)) };
     refused-same = d .refused-same;
     idle-same = d .idle-same;
     held-count = d .held-count;
@@ -62,10 +71,10 @@ pub sheet-size : {b : Monitor} → Sound b → b .size ≡ length (bytesOf b)
 sheet-size {b} f = sym (length-take-le (b .size) (b .bytes) (omega (arith, f .bytes-sized, f .size-fits)))
 
 pub valid-state : {b : Monitor} → Valid b → StateValid (bytesOf b) (b .live) (b .state)
-valid-state v = record { sound = v .sound .state; past = v .past; reached = v .reached }
+valid-state v = record { sound = v .sound .state; recorded = v .recorded }
 
 pub valid-box : {b : Monitor} {q : State} → Sound b → StateValid (bytesOf b) (b .live) q → Valid (withState b q)
-valid-box f v = record { sound = record { bytes-sized = f .bytes-sized; size-fits = f .size-fits; state = v .sound }; past = v .past; reached = v .reached }
+valid-box f v = record { sound = record { bytes-sized = f .bytes-sized; size-fits = f .size-fits; state = v .sound }; recorded = v .recorded }
 
 -- A call on the parts of a box is one on the box.
 pub move-call : {b : Monitor} {k : Call} {r : Moved} → Sound b → MoveRight (bytesOf b) (b .live) (b .state) k r → CallRight b k (record { monitor = withState b (r .state); answer = r .answer })
@@ -112,7 +121,7 @@ module _ {s : Bytes} {live : List ℕ} {q : State} (v : StateValid s live q) (c 
 -- ---- A collection, by its first checks
 
 module _ {s : Bytes} {live : List ℕ} {q : State} (v : StateValid s live q) (t : ℕ) where
-  collect-is : (y z : Bool) → ltb maxDate t ≡ y → ltb t (q .date) ≡ z → picked (view q) t y z ≡ answer (modelOf s) (view q) (collect t)
+  collect-is : (y z : Bool) → ltb maxDate t ≡ y → ltb t (q .date) ≡ z → picked (modelOf s) (view q) t y z ≡ answer (modelOf s) (view q) (collect t)
   unfolding answer collected
   collect-is y z f g = rw (view-date, f, g)
 
@@ -124,13 +133,81 @@ module _ {s : Bytes} {live : List ℕ} {q : State} (v : StateValid s live q) (t 
   unfolding picked
   collect-past k p = done-right v (collect t) _ (refused-done q S1 _ (v .sound) (collect-is false true (le-ltb maxDate t k) (lt-ltb t (q .date) p)))
 
-  pub collect-played : {r : Moved} → t ≤ maxDate → q .date ≤ t → Done s live q (oldest (view q) t (view q .schedule)) r → MoveRight s live q (collect t) r
+  pub collect-played : {r : Moved} → t ≤ maxDate → q .date ≤ t → Done s live q (oldest (modelOf s) (view q) t (view q .schedule)) r → MoveRight s live q (collect t) r
   unfolding picked
   collect-played {r} k p d = done-right v (collect t) r (done-same d (collect-is false false (le-ltb maxDate t k) (le-ltb t (q .date) p)))
 
+-- ---- A lit lamp
+
+-- Only "dropped" is answered by dropping.
+decided-dropped : (m : Compiled) (b : model.Monitor) (c t : ℕ) (g : Configuration → ℕ → List ℕ) (a : Prospect) → decided m b c t g a .outcome ≡ dropped → answering dropped (dated m b t) ≡ decided m b c t g a
+unfolding decided placed kept
+decided-dropped m b c t g (ticks n) e = absurd (go (ltb maxDate (earliest b t + n)) (ltb (maxScheduled - length (b .schedule)) (length (joins b c))) e)
+  where
+    go : (x y : Bool) → placed m b c t (g (standing b t) (earliest b t)) (earliest b t + n) x y .outcome ≡ dropped → ⊥
+    go true y e = let z : _≡_ {A = ℕ} 0 1 = cc in omega arith
+    go false true e = let z : _≡_ {A = ℕ} 0 1 = cc in omega arith
+    go false false e = let z : _≡_ {A = ℕ} 0 1 = cc in omega arith
+decided-dropped m b c t g extensible e = absurd (go (leb maxCount (length (b .pending))) e)
+  where
+    go : (x : Bool) → kept m b c t x .outcome ≡ dropped → ⊥
+    go true e = let z : _≡_ {A = ℕ} 0 1 = cc in omega arith
+    go false e = let z : _≡_ {A = ℕ} 0 1 = cc in omega arith
+decided-dropped m b c t g dead e = refl
+
+-- A collection sets the lamp for its date, whatever it plays.
+oldest-lit : (m : Compiled) (b : model.Monitor) (t : ℕ) (ss : List history.Slot) → oldest m b t ss .monitor .lit ≡ isLit m (standing b t) (actionsOf (b .pending))
+unfolding oldest taken lampLit
+oldest-lit m b t [] = refl
+oldest-lit m b t (e ∷ ss) = go (leb (e .date) t)
+  where
+    go : (x : Bool) → taken m b t e ss x .monitor .lit ≡ isLit m (standing b t) (actionsOf (b .pending))
+    go true = refl
+    go false = refl
+
+module _ {s : Bytes} {live : List ℕ} {q : State} (v : StateValid s live q) where
+  abbrev a : Automaton
+  a = automaton s
+
+  abbrev past : History
+  past = v .recorded .history
+
+  -- The stored lamp is the one by the rule.
+  lamp-stored : q .lit ≡ lampAt s q (q .date)
+  unfolding view lampLit
+  lamp-stored = lamp-rule a (bounded s (v .sound .loads)) past (view q) (v .recorded .stands)
+
+  pub lamp-same : (t : ℕ) → q .lit ≡ false → max t (q .last) ≡ max (q .date) (q .last) → false ≡ lampAt s q t
+  unfolding view
+  lamp-same t e h = sym e ∙ lamp-stored ∙ ap (λ (n : ℕ). isLit (modelOf s) (advance (n - q .last) (located (q .location) (q .readings))) (actionsOf (view q .pending))) (sym h)
+
+  module _ (t : ℕ) (lit : q .lit ≡ true) (early : t ≤ maxDate) (current : q .date ≤ t) where
+    not-dark : history.Dark a past → ⊥
+    unfolding view
+    not-dark = lit-shows (v .recorded .stands) lit
+
+    -- A lit lamp stays lit.
+    pub lamp-later : true ≡ lampAt s q t
+    unfolding Demand2All picked
+    lamp-later =
+        let w : model.Answered = answer (modelOf s) (view q) (collect t) in
+        let d : Demand2 a past (collect t) w = demand-2 a (bounded s (v .sound .loads)) past (view q) (v .recorded .stands) (collect t) in
+        sym (not-dark-lit (d .stands) (history-lit a past (d .history) (collect t ∷ []) (w .outcome ∷ []) not-dark (call (d .answers) end)))
+        ∙ ap (λ (x : model.Answered). x .monitor .lit) (sym (collect-is v t false false (le-ltb maxDate t early) (le-ltb t (q .date) current)))
+        ∙ oldest-lit (modelOf s) (view q) t (view q .schedule)
+
+    -- An offer is dropped.
+    pub offer-lit : (c : ℕ) → c < actions s → MoveRight s live q (offer c t) (record { state = movedTo q t true; answer = Dropped })
+    unfolding checked
+    offer-lit c known =
+        let i : InTime a (view q) c t = record { known = known; early = early; current = subst⁻¹ (λ (d : ℕ). d ≤ t) (view-date q) current } in
+        let e : answer (modelOf s) (view q) (offer c t) .outcome ≡ dropped = exhausted-drops a (bounded s (v .sound .loads)) (view q) (record { history = past; stands = v .recorded .stands; not-dark = not-dark }) c t i in
+        offer-decided v c t known early current
+        (dropped-done q t true _ (v .sound) early lamp-later (decided-dropped (modelOf s) (view q) c t _ _ (ap (λ (x : model.Answered). x .outcome) (offer-is v c t true false false (lt-ltb c (actions s) known) (le-ltb maxDate t early) (le-ltb t (q .date) current)) ∙ e)))
+
 -- ---- The lamp
 
-pub lamp-right : {s : Bytes} {live : List ℕ} {q : State} (x : Bool) → StateValid s live q → lampLit (modelOf s) (view q) ≡ x → MoveRight s live q lamp (record { state = q; answer = cond x Lit Dark })
-unfolding answer
-lamp-right {s} {live} {q} true v e = done-right v lamp _ (plain-done q _ (record { state = q; answer = Lit }) tt (λ z. refl) (rw e) (v .sound))
-lamp-right {s} {live} {q} false v e = done-right v lamp _ (plain-done q _ (record { state = q; answer = Dark }) tt (λ z. refl) (rw e) (v .sound))
+pub lamp-right : {b : Monitor} (x : Bool) → Valid b → b .state .lit ≡ x → CallRight b lamp (record { monitor = b; answer = cond x Lit Dark })
+unfolding answer view
+lamp-right {b} true v e = move-call (v .sound) (done-right (valid-state v) lamp _ (plain-done (b .state) _ (record { state = b .state; answer = Lit }) tt (λ z. refl) (rw e) (v .sound .state)))
+lamp-right {b} false v e = move-call (v .sound) (done-right (valid-state v) lamp _ (plain-done (b .state) _ (record { state = b .state; answer = Dark }) tt (λ z. refl) (rw e) (v .sound .state)))

@@ -6,30 +6,35 @@ use mathlib.Core.List.{List, [], _∷_, _++_}
 use Prim.Native.Nat.{ℕ, _+_, _*_, _-_, _≤_, _<_, max}
 use native.Mathlib.Omega.{arith}
 use lib.Dec.{leb, ltb}
-use lib.ListN.{length, take, getD}
-use lib.Seq.{length-take-le, getD-take, getD-at}
+use lib.ListN.{length, take, getD, length-append}
+use lib.Seq.{length-take-le, getD-take, getD-at, take-append-seam}
 use borrow.Author.Tests.{le-ltb, lt-ltb}
 use Rattle.enforcement.specs.Limits.{maxCount, maxScheduled, maxDate}
 use Rattle.enforcement.specs.Automaton.{Bytes}
 use Rattle.enforcement.specs.Reason.{S-3}
 use Rattle.enforcement.specs.History.{actionsOf, dropped}
 use Rattle.enforcement.specs.Model.{Prospect, ticks, extensible, dead, top, Compiled, prospect, dates, advance}
-use Rattle.enforcement.specs.Monitor.{same, dated, joins, earliest, standing, walk, placed, kept, decided, checked, isLit, lampLit}
+use Rattle.enforcement.specs.Monitor.{same, dated, joins, earliest, standing, walk, placed, kept, decided, checked, isDead, isLit}
 use Rattle.enforcement.specs.Monitor as model
 use Rattle.retimer.specs.declared.limits.State.{State}
 use Rattle.retimer.specs.declared.optimum.Planned.{Planned}
 use Rattle.retimer.specs.Readings.{waited, located}
 use Rattle.retimer.specs.Optimum.{modelOf, Asked, PlanRight, LampAsked}
 use Rattle.retimer.specs.View.{view, StateSound}
-use Rattle.retimer.specs.Calls.{lastAction, newDates, decidedOf, CorrectAsked, PlaceAsked, placedOf}
+use Rattle.retimer.specs.Calls.{lampWith, lampAt, lastAction, newDates, decidedOf, CorrectAsked, PlaceAsked, placedOf}
 use Rattle.retimer.proofs.Valuations.{located-waited, standing-waited}
+use Rattle.retimer.specs.Outlook.{frontOf}
 use Rattle.retimer.proofs.Prospects.{ticks-most}
 use Rattle.retimer.proofs.Views.{actions-requests, joins-actions, schedule-length, joins-length, answering}
+use Rattle.retimer.proofs.Stuck.{lit-some}
 
 -- The model decides by the prospect.
 decided-is : (m : Compiled) (v : model.Monitor) (c t : ℕ) (x : Prospect) → prospect m (actionsOf (joins v c)) (standing v t) ≡ x → decided m v c t (dates m (actionsOf (joins v c))) x ≡ checked m v c t true false false
 unfolding checked
 decided-is m v c t x e = ap (decided m v c t (dates m (actionsOf (joins v c)))) (sym e)
+
+front-of : (cs : List ℕ) (c : ℕ) → frontOf (cs ++ (c ∷ [])) ≡ cs
+front-of cs c = let z : length (cs ++ (c ∷ [])) - 1 ≡ length cs = omega (arith, length-append cs (c ∷ [])) in ap (λ (n : ℕ). take n (cs ++ (c ∷ []))) z ∙ take-append-seam cs (c ∷ [])
 
 -- ---- The first date at which an action can be played, and the configuration there
 
@@ -60,10 +65,10 @@ plan-asked {s} {live} {q} {t} {start} {here} {cs} a n d =
 pub lamp-asked : {s : Bytes} {live : List ℕ} (q : State) (n : ℕ) (here : List ℕ) → StateSound s live q → here ≡ waited n (q .readings) → LampAsked s live (q .location) here
 lamp-asked {s} q n here f e = record { loads = f .loads; table = f .table; standing = rw e (standing-waited s (q .location) n (q .readings) (f .standing)) }
 
-pub lamp-as : (s : Bytes) (q : State) (start : ℕ) (here : List ℕ) (x : Bool) → start ≡ max (q .date) (q .last) → here ≡ waited (start - q .last) (q .readings)
-    → x ≡ isLit (modelOf s) (located (q .location) here) (take (q .held) (q .pending)) → lampLit (modelOf s) (view q) ≡ x
-unfolding lampLit view
-lamp-as s q start here x e f g = ap₂ (isLit (modelOf s)) (sym (standing-is q (q .date) start here e f)) (actions-requests (take (q .held) (q .pending))) ∙ sym g
+pub lamp-as : (s : Bytes) (q : State) (t start : ℕ) (here : List ℕ) (x : Bool) → start ≡ max t (q .last) → here ≡ waited (start - q .last) (q .readings)
+    → x ≡ isLit (modelOf s) (located (q .location) here) (take (q .held) (q .pending)) → x ≡ lampAt s q t
+unfolding view
+lamp-as s q t start here x e f g = g ∙ ap₂ (isLit (modelOf s)) (standing-is q t start here e f) (sym (actions-requests (take (q .held) (q .pending))))
 
 -- ---- What an offer has worked out before it decides
 
@@ -105,14 +110,22 @@ module _ {s : Bytes} {live : List ℕ} {q : State} {c t start : ℕ} {here cs : 
   correct-asked n e = record { sound = w .sound; early = w .early; start-is = w .start-is; here-is = w .here-is; joined = rw last-is (w .joined); correctable = (n, e) }
 
   -- Case 2.
-  pub hold-is : found ≡ extensible → kept (view q) c t (leb maxCount (length (view q .pending))) ≡ decidedOf s q c t
+  pub hold-is : found ≡ extensible → kept (modelOf s) (view q) c t (leb maxCount (length (view q .pending))) ≡ decidedOf s q c t
   unfolding decided
   hold-is e = decides extensible e
 
+  -- What is held is not dead, so the lamp is dark.
+  pub hold-dark : found ≡ extensible → lampWith s q t (actionsOf (joins (view q) c)) ≡ false
+  hold-dark e = sym (lit-some (modelOf s) (standing (view q) t) (actionsOf (joins (view q) c)) false (λ z. omega (arith, few, ap length actions-are, z)) (ap isDead (sym e ∙ prospect-is)))
+
   -- Case 3.
-  pub drop-is : found ≡ dead → answering dropped (dated (view q) t) ≡ decidedOf s q c t
+  pub drop-is : found ≡ dead → answering dropped (dated (modelOf s) (view q) t) ≡ decidedOf s q c t
   unfolding decided
   drop-is e = decides dead e
+
+  -- The lamp is that of the actions without the last.
+  pub drop-lamp : (x : Bool) → x ≡ isLit (modelOf s) (located (q .location) here) (frontOf (take (q .held + 1) cs)) → x ≡ lampAt s q t
+  drop-lamp x e = lamp-as s q t start here x (w .start-is) (w .here-is) (e ∙ ap (isLit (modelOf s) (located (q .location) here)) (ap frontOf (w .joined) ∙ front-of (take (q .held) (q .pending)) c))
 
   -- Case 1, with a correction of n ticks.
   module _ {n : ℕ} (e : found ≡ ticks n) where
@@ -147,8 +160,8 @@ module _ {s : Bytes} {live : List ℕ} {q : State} {c t start : ℕ} {here cs : 
           ∙ ap₂ (λ (l d : List ℕ). walk (modelOf s .step) l d start (located (q .location) here)) (actions-are ∙ ap (λ (x : ℕ). actionsOf (joins (view q) x)) (sym last-is)) (sym dates-as-planned)
           ∙ ap₂ (walk (modelOf s .step) (actionsOf (joins (view q) (lastAction q cs))) (newDates q ds)) (earliest-is q t start (w .start-is)) here-stands
 
-      pub place-asked : PlaceAsked s live q t cs ds (p .location) (p .readings)
-      place-asked = record { sound = w .sound; early = w .early; joined = rw last-is (w .joined); stands = planned .standing; reached = reached-as-planned }
+      pub place-asked : PlaceAsked s live q t cs ds (start + p .value) (p .location) (p .readings)
+      place-asked = record { sound = w .sound; early = w .early; ordered = omega (arith, w .start-is); joined = rw last-is (w .joined); stands = planned .standing; reached = reached-as-planned }
 
       pub place-is : placedOf s q t cs ds (start + p .value) ≡ decidedOf s q c t
       unfolding decided placing

@@ -3,25 +3,26 @@
 use mathlib.Core.Path.{_≡_, refl, ap, ap₂, sym, _∙_, subst, subst⁻¹}
 use mathlib.Core.Bool.{Bool, true, false, cond}
 use mathlib.Core.List.{List, [], _∷_, _++_}
+use mathlib.Core.Logic.{_↔_}
 use Prim.Native.Nat.{ℕ}
-use native.Mathlib.Omega.{arith}
 use Rattle.enforcement.specs.Automaton.{Bytes, automaton}
 use Rattle.enforcement.specs.Loading.{Loads}
-use Rattle.enforcement.specs.History.{fresh, Call, offer, lamp, Outcome, scheduled, held, dropped, played, nothing, lit, dark, refused, HistoryOf}
-use Rattle.enforcement.specs.Monitor.{freshMonitor, answer, lampLit, replay}
+use Rattle.enforcement.specs.History.{fresh, Call, offer, lamp, Outcome, scheduled, held, dropped, played, nothing, lit, dark, refused, HistoryOf, Schedulable}
+use Rattle.enforcement.specs.Monitor.{freshMonitor, answer, replay}
 use Rattle.enforcement.specs.Monitor as model
 use Rattle.enforcement.specs.Demands.{StandsFor, ModelDemand3, ModelDemand3All, InTime, calls, lampAfter}
 use Rattle.enforcement.proofs.Loading.{bounded}
-use Rattle.enforcement.proofs.Model.{replay-append, right}
+use Rattle.enforcement.proofs.Model.{replay-append}
 use Rattle.enforcement.proofs.Promises.{model-demand-3}
 use Rattle.retimer.specs.declared.limits.Monitor.{Monitor}
 use Rattle.retimer.specs.declared.state.Answer.{Answer}
 use Rattle.retimer.specs.declared.state.Answer.the-variants.{Scheduled, Held, Dropped, Played, Nothing, Lit, Dark, Refused}
 use Rattle.retimer.specs.declared.monitor.Answered.{Answered}
 use Rattle.retimer.specs.Optimum.{modelOf}
-use Rattle.retimer.specs.View.{bytesOf, automatonOf, viewOf, Valid}
+use Rattle.retimer.specs.View.{bytesOf, view, viewOf, Valid}
 use Rattle.retimer.specs.Calls.{outcomeOf, answeredOf, CallRight, FreshRight}
-use Rattle.retimer.specs.Demand3.{Made, end, call, outcomesOf, CodeDemand3, Recorded}
+use Rattle.retimer.specs.Demand3.{Made, end, call, outcomesOf, CodeDemand3}
+use Rattle.retimer.proofs.CallLaws.{view-lit}
 
 -- ---- The calls on boxes are the model's
 
@@ -82,33 +83,14 @@ determined (Refused q) = refl
 answer-of : (a : Answer) (o : Outcome) → outcomeOf a ≡ o → a ≡ answerFor o a
 answer-of a o e = sym (determined a) ∙ ap (λ (x : Outcome). answerFor x a) e
 
--- ---- The lamp
+-- The answer to a lamp call.
+told : (a : Answer) (x : Bool) → outcomeOf a ≡ cond x lit dark → a ≡ cond x Lit Dark
+told a true e = answer-of a lit e
+told a false e = answer-of a dark e
 
--- A lamp call on a box answers by the model's lamp.
-module _ (s : Bytes) (b : Monitor) (sheet : bytesOf b ≡ s) (v : model.Monitor) (view : viewOf b ≡ v) (r : Answered) (c : CallRight b lamp r) where
-  lamp-outcome : outcomeOf (r .answer) ≡ cond (lampLit (modelOf s) v) lit dark
-  unfolding answer
-  lamp-outcome = ap (λ (w : model.Answered). w .outcome) (c .is) ∙ ap₂ (λ (x : Bytes) (w : model.Monitor). cond (lampLit (modelOf x) w) lit dark) sheet view
-
-  lit-shows : r .answer ≡ Lit → lampLit (modelOf s) v ≡ true
-  lit-shows e = go (lampLit (modelOf s) v) (sym (ap outcomeOf e) ∙ lamp-outcome)
-    where
-      go : (x : Bool) → lit ≡ cond x lit dark → x ≡ true
-      go true f = refl
-      go false f = let z : _≡_ {A = ℕ} 0 1 = cc in absurd (omega arith)
-
-  dark-shows : r .answer ≡ Dark → lampLit (modelOf s) v ≡ false
-  dark-shows e = go (lampLit (modelOf s) v) (sym (ap outcomeOf e) ∙ lamp-outcome)
-    where
-      go : (x : Bool) → dark ≡ cond x lit dark → x ≡ false
-      go true f = let z : _≡_ {A = ℕ} 0 1 = cc in absurd (omega arith)
-      go false f = refl
-
-  shows-lit : lampLit (modelOf s) v ≡ true → r .answer ≡ Lit
-  shows-lit e = answer-of (r .answer) lit (lamp-outcome ∙ ap (λ (x : Bool). cond x lit dark) e)
-
-  shows-dark : lampLit (modelOf s) v ≡ false → r .answer ≡ Dark
-  shows-dark e = answer-of (r .answer) dark (lamp-outcome ∙ ap (λ (x : Bool). cond x lit dark) e)
+lamp-told : (b : Monitor) (r : Answered) → CallRight b lamp r → r .answer ≡ cond (b .state .lit) Lit Dark
+unfolding answer view
+lamp-told b r c = told (r .answer) (b .state .lit) (ap (λ (w : model.Answered). w .outcome) (c .is))
 
 -- ---- Demand 3
 
@@ -138,20 +120,15 @@ module _ (s : Bytes) (b₀ : Monitor) (f : FreshRight s b₀) (ks : List Call) (
       let g : Follows s b more ys b′ = made-follows s (now .sheet-is) (now .valid) n in
       (g .monitor-is ∙ ap (λ (x : model.Monitor). replay (modelOf s) x more .monitor) monitor-is ∙ sym (replay-append (modelOf s) ks more (freshMonitor (automaton s))), g .sheet-is)
 
-  lit-now : (r : Answered) → CallRight b lamp r → r .answer ≡ Lit → lampAfter (automaton s) ks ≡ true
-  lit-now r c = lit-shows s b (now .sheet-is) (calls (automaton s) ks .monitor) monitor-is r c
+  lit-now : b .state .lit ≡ lampAfter (automaton s) ks
+  lit-now = view-lit (b .state) monitor-is
 
-  still-lit : (r : Answered) → CallRight b lamp r → r .answer ≡ Lit → (more : List Call) (ys : List Answer) (b′ : Monitor) → Made b more ys b′ → (q : Answered) → CallRight b′ lamp q → q .answer ≡ Lit
-  still-lit r c e more ys b′ n q d =
-      let g = after-more more ys b′ n in
-      shows-lit s b′ (g .1) (calls (automaton s) (ks ++ more) .monitor) (g .0) q d (model-right ks .stays-lit (lit-now r c e) more)
-
-  all-dropped : (r : Answered) → CallRight b lamp r → r .answer ≡ Lit → (more : List Call) (ys : List Answer) (b′ : Monitor) → Made b more ys b′ → (c t : ℕ) → InTime (automaton s) (viewOf b′) c t → (q : Answered) → CallRight b′ (offer c t) q → q .answer ≡ Dropped
-  all-dropped r d e more ys b′ n c t i q w =
+  all-dropped : b .state .lit ≡ true → (more : List Call) (ys : List Answer) (b′ : Monitor) → Made b more ys b′ → (c t : ℕ) → InTime (automaton s) (viewOf b′) c t → (q : Answered) → CallRight b′ (offer c t) q → q .answer ≡ Dropped
+  all-dropped e more ys b′ n c t i q w =
       let g = after-more more ys b′ n in
       answer-of (q .answer) dropped
       (ap (λ (x : model.Answered). x .outcome) (w .is) ∙ ap₂ (λ (x : Bytes) (v : model.Monitor). answer (modelOf x) v (offer c t) .outcome) (g .1) (g .0)
-      ∙ model-right ks .drops (lit-now r d e) more c t (subst (λ (v : model.Monitor). InTime (automaton s) v c t) (g .0) i))
+      ∙ model-right ks .drops (sym lit-now ∙ e) more c t (subst (λ (v : model.Monitor). InTime (automaton s) v c t) (g .0) i))
 
   pub code-demand-3 : CodeDemand3 s ks xs b
   code-demand-3 = let z = model-right ks in record {
@@ -159,17 +136,12 @@ module _ (s : Bytes) (b₀ : Monitor) (f : FreshRight s b₀) (ks : List Call) (
     recorded = subst⁻¹ (λ (os : List Outcome). HistoryOf (automaton s) (fresh (automaton s)) ks os (z .history)) outcomes-are (z .recorded);
     only = λ os h r. (z .only os h r .0 ∙ sym outcomes-are, z .only os h r .1);
     stands = subst⁻¹ (λ (x : model.Monitor). StandsFor (automaton s) x (z .history)) monitor-is (z .stands);
-    lit-is = λ r c. (λ e. z .lit-is .0 (lit-now r c e), λ g. shows-lit s b (now .sheet-is) (calls (automaton s) ks .monitor) monitor-is r c (z .lit-is .1 g));
-    dark-is = λ r c. (λ e. z .dark-is .0 (dark-shows s b (now .sheet-is) (calls (automaton s) ks .monitor) monitor-is r c e), λ g. shows-dark s b (now .sheet-is) (calls (automaton s) ks .monitor) monitor-is r c (z .dark-is .1 g));
+    lit-is = subst⁻¹ (λ (x : Bool). (x ≡ true) ↔ (Schedulable (automaton s) (z .history) → ⊥)) lit-now (z .lit-is);
+    dark-is = subst⁻¹ (λ (x : Bool). (x ≡ false) ↔ Schedulable (automaton s) (z .history)) lit-now (z .dark-is);
     rule-is = z .rule-is;
-    stays-lit = still-lit;
+    answers-lamp = lamp-told b;
+    stays-lit = λ e more ys b′ n. view-lit (b′ .state) (after-more more ys b′ n .0) ∙ z .stays-lit (sym lit-now ∙ e) more;
     drops = all-dropped;
     sheet-is = now .sheet-is;
     valid = now .valid;
   }
-
--- Every box stands for a history.
-pub valid-recorded : (b : Monitor) → Valid b → Recorded b
-valid-recorded b v =
-    let z = right (automatonOf b) (bounded (bytesOf b) (v .sound .state .loads)) (v .past) in
-    record { past = v .past; outcomes = calls (automatonOf b) (v .past) .outcomes; history = z .history; recorded = z .recorded; stands = subst⁻¹ (λ (x : model.Monitor). StandsFor (automatonOf b) x (z .history)) (v .reached) (z .stands) }

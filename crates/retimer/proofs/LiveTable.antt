@@ -5,7 +5,7 @@ use mathlib.Core.Bool.{Bool, true, false, cond, _||_, _&&_, false≢true, true�
 use mathlib.Core.List.{List, [], _∷_}
 use mathlib.Core.Logic.{_⊎_, inl, inr, ⊎-elim}
 use mathlib.Core.Option.{some}
-use Prim.Native.Nat.{ℕ, zero, suc, _+_, _*_, _-_, _^_, _≤_, _<_, min}
+use Prim.Native.Nat.{ℕ, _+_, _*_, _-_, _^_, _≤_, _<_, min}
 use native.Mathlib.Omega.{arith}
 use lib.Dec.{eqb}
 use lib.ListN.{length, getD, set, replicate, length-replicate}
@@ -31,6 +31,7 @@ use Rattle.retimer.proofs.sets.Tables.{same-or}
 use Rattle.retimer.proofs.sets.Filling.{short}
 use Rattle.retimer.proofs.sets.Closing.{waits-none, waits-later, closed-whole}
 use Rattle.retimer.proofs.Valuations.{cond-most}
+use Rattle.retimer.proofs.Played.{sooner-lives}
 use Rattle.retimer.proofs.Places.{Every, place-split, place-fits, places-every}
 
 true-and : {a b : Bool} → a ≡ true → b ≡ true → (a && b) ≡ true
@@ -41,10 +42,10 @@ true-and e f = rw (e, f)
 abbrev at : ℕ → ℕ → ℕ → Configuration
 at l x y = record { location = l; x = x; y = y }
 
-tick-stands : {s : Bytes} {l x y : ℕ} → Stands s l x y → Stands s l (min (x + 1) top) (min (y + 1) top)
-tick-stands {s} {l} {x} {y} h = record { in-sheet = h .in-sheet; first = omega arith; second = omega arith; used = go (eqb (clocks s) 1) (h .used) }
+later-stands : {s : Bytes} {l x y : ℕ} (n : ℕ) → Stands s l x y → Stands s l (min (x + n) top) (min (y + n) top)
+later-stands {s} {l} {x} {y} n h = record { in-sheet = h .in-sheet; first = omega arith; second = omega arith; used = go (eqb (clocks s) 1) (h .used) }
   where
-    go : (one : Bool) → leastOf one ≤ y → leastOf one ≤ min (y + 1) top
+    go : (one : Bool) → leastOf one ≤ y → leastOf one ≤ min (y + n) top
     go true g = omega arith
     go false g = omega arith
 
@@ -184,14 +185,7 @@ module _ (s : Bytes) (loads : Loads s) where
 
   -- Some ticks later.
   later-lives : (n l x y : ℕ) → Stands s l x y → (Stands s l (min (x + n) top) (min (y + n) top) → Lives l (min (x + n) top) (min (y + n) top)) → Lives l x y
-  later-lives zero l x y h f =
-      let a : min (x + 0) top ≡ x = omega (arith, h .first) in
-      let b : min (y + 0) top ≡ y = omega (arith, h .second) in
-      rw (a, b) at (f (rw (a, b) h))
-  later-lives (suc n) l x y h f =
-      let a : min (x + suc n) top ≡ min (min (x + 1) top + n) top = omega arith in
-      let b : min (y + suc n) top ≡ min (min (y + 1) top + n) top = omega arith in
-      tick (later-lives n l (min (x + 1) top) (min (y + 1) top) (tick-stands h) (λ g. rw (a, b) at (f (rw (a, b) g))))
+  later-lives n l x y h f = sooner-lives s n (at l x y) (h .first, h .second) (f (later-stands n h))
 
   waits-lives : (t : List ℕ) → Sound s t → (n l x y : ℕ) → Stands s l x y → member t l (min (x + n) top) (min (y + n) top) ≡ true → Lives l x y
   waits-lives t f n l x y h e = later-lives n l x y h (λ g. alive-lives l (min (x + n) top) (min (y + n) top) g (f .live l (min (x + n) top) (min (y + n) top) g e))
@@ -448,7 +442,7 @@ module _ (s : Bytes) (loads : Loads s) where
     closed-holds : (p : Configuration) → Live (step (automaton s)) (accepting s) (actions s) p → Stood p → holds t p ≡ true
     unfolding step
     closed-holds p (here {p = z} e) h = f .full (z .location) (z .x) (z .y) (omega (arith, h .in-sheet, header s loads .locations-fit)) (h .first) (h .used) (h .second) e
-    closed-holds p (tick {p = z} g) h = f .ticked (z .location) (h .in-sheet) (z .x) (z .y) (h .first) (h .used) (h .second) (closed-holds (advance 1 z) g (tick-stands h))
+    closed-holds p (tick {p = z} g) h = f .ticked (z .location) (h .in-sheet) (z .x) (z .y) (h .first) (h .used) (h .second) (closed-holds (advance 1 z) g (later-stands 1 h))
     closed-holds p (act {p = z} {q = q} c b e g) h =
         first-holds t c z q (transitions s (z .location)) h (places-every s loads (z .location) (h .in-sheet) (Included s t (z .location)) (λ i r. f .included (z .location) i (h .in-sheet) r (bit-none (byte s (i + 1))))) e (closed-holds q g (step-stands c z q h e))
 

@@ -1,6 +1,6 @@
 -- Laws of loading: what the check's answer says of the sheet, and that the box made of a sheet is a fresh one.
 -- Assumes nothing.
-use mathlib.Core.Path.{_≡_, refl, ap, sym, _∙_}
+use mathlib.Core.Path.{_≡_, refl, ap, sym, _∙_, subst⁻¹}
 use mathlib.Core.Bool.{Bool, true, false, cond}
 use mathlib.Core.List.{List, [], _∷_}
 use mathlib.Core.Logic.{_⊎_, inl, inr}
@@ -13,10 +13,13 @@ use Rattle.enforcement.specs.Automaton.{Bytes, automaton, clocks, initial}
 use Rattle.enforcement.specs.Loading.{Loads, check}
 use Rattle.enforcement.specs.Reason as model-reason
 use Rattle.enforcement.specs.Loading as loading
+use Rattle.enforcement.specs.History.{fresh, end}
 use Rattle.enforcement.specs.Model.{top, oneClock}
-use Rattle.enforcement.specs.Monitor.{freshMonitor, replay}
+use Rattle.enforcement.specs.Monitor.{isLit, lampLit, withLamp, freshMonitor}
 use Rattle.enforcement.specs.Monitor as model
-use Rattle.enforcement.proofs.Loading.{size-fits, initial-fits, loads-check, check-right}
+use Rattle.enforcement.specs.Demands.{StandsFor}
+use Rattle.enforcement.proofs.Loading.{size-fits, initial-fits, loads-check, check-right, bounded}
+use Rattle.enforcement.proofs.Model as model-laws
 use Rattle.retimer.specs.declared.limits.Slot.{Slot}
 use Rattle.retimer.specs.declared.limits.Monitor.{Monitor}
 use Rattle.retimer.specs.declared.reason.Reason.{Reason}
@@ -25,7 +28,8 @@ use Rattle.retimer.specs.declared.sheet.Checked.{Checked}
 use Rattle.retimer.specs.declared.sheet.Checked.the-variants.{Accepted, Refused}
 use Rattle.retimer.specs.Reasons.{reasonOf}
 use Rattle.retimer.specs.Checked.{figuresOf, checkedOf}
-use Rattle.retimer.specs.Readings.{Standing}
+use Rattle.retimer.specs.Readings.{located, Standing}
+use Rattle.retimer.specs.Optimum.{modelOf, LampAsked}
 use Rattle.retimer.specs.Live.{LiveTable}
 use Rattle.retimer.specs.View.{view, viewOf}
 use Rattle.retimer.specs.Calls.{FreshRight}
@@ -50,16 +54,16 @@ refused-loads s v r e f l =
 
 -- ---- A fresh box
 
--- The box of a sheet: its bytes in front of b, its live table, no action pending or scheduled, and at the initial location with a second clock that reads y.
-abbrev pub madeOf : Bytes → Bytes → List ℕ → List ℕ → List Slot → ℕ → Monitor
-madeOf s b live pending slots y = record { bytes = b; size = length s; live = live; state = record { date = 0; pending = pending; held = 0; schedule = slots; planned = 0; location = initial s; readings = 0 ∷ y ∷ []; last = 0 } }
+-- The box of a sheet: its bytes in front of b, its live table, no action pending or scheduled, at the initial location with a second clock that reads y, and the lamp.
+abbrev pub madeOf : Bytes → Bytes → List ℕ → List ℕ → List Slot → ℕ → Bool → Monitor
+madeOf s b live pending slots y lit = record { bytes = b; size = length s; live = live; state = record { date = 0; pending = pending; held = 0; schedule = slots; planned = 0; location = initial s; readings = 0 ∷ y ∷ []; last = 0; lit = lit } }
 
 -- The second clock's reading, saturated where there is no second clock.
 pub second-is : (s : Bytes) (y : ℕ) → ((clocks s ≡ 1) × (y ≡ top)) ⊎ ((clocks s ≡ 1 → ⊥) × (y ≡ 0)) → y ≡ cond (oneClock (automaton s)) top 0
 second-is s y (inl h) = rw (eq-eqb (clocks s) 1 (h .0)) (h .1)
 second-is s y (inr h) = rw (ne-eqb (clocks s) 1 (h .0)) (h .1)
 
-module _ (s b : Bytes) (live pending : List ℕ) (slots : List Slot) (y : ℕ) (loads : Loads s) (front : take (length s) b ≡ s) (second : y ≡ cond (oneClock (automaton s)) top 0) where
+module _ (s : Bytes) (y : ℕ) (loads : Loads s) (second : y ≡ cond (oneClock (automaton s)) top 0) where
   fresh-stands : Standing s (initial s) (0 ∷ y ∷ [])
   fresh-stands = record { in-sheet = initial-fits s loads; readings = record { two = refl; first = omega arith; second = go (oneClock (automaton s)) y second }; one-clock = λ e. rw (eq-eqb (clocks s) 1 e) at second }
     where
@@ -67,23 +71,30 @@ module _ (s b : Bytes) (live pending : List ℕ) (slots : List Slot) (y : ℕ) (
       go true n e = omega arith
       go false n e = omega arith
 
-  fresh-view : viewOf (madeOf s b live pending slots y) ≡ freshMonitor (automaton s)
-  unfolding view
-  fresh-view = ap (λ (n : ℕ). viewAt n) (second ∙ go (oneClock (automaton s)))
-    where
-      viewAt : ℕ → model.Monitor
-      viewAt n = record { date = 0; pending = []; schedule = []; configuration = record { location = initial s; x = 0; y = n }; last = 0 }
+  -- What the lamp is given.
+  pub fresh-asked : {live : List ℕ} → LiveTable s live → LampAsked s live (initial s) (0 ∷ y ∷ [])
+  fresh-asked t = record { loads = loads; table = t; standing = fresh-stands }
 
-      go : (x : Bool) → cond x top 0 ≡ cond x top (min 0 top)
+module _ (s b : Bytes) (live pending : List ℕ) (slots : List Slot) (y : ℕ) (lit : Bool) (loads : Loads s) (front : take (length s) b ≡ s) (second : y ≡ cond (oneClock (automaton s)) top 0) where
+  fresh-view : lit ≡ isLit (modelOf s) (located (initial s) (0 ∷ y ∷ [])) [] → viewOf (madeOf s b live pending slots y lit) ≡ freshMonitor (automaton s)
+  unfolding view lampLit
+  fresh-view none = ap (λ (x : Bool). viewAt y x) none ∙ ap (λ (n : ℕ). viewAt n (isLit (modelOf s) (located (initial s) (0 ∷ n ∷ [])) [])) second ∙ go (oneClock (automaton s))
+    where
+      viewAt : ℕ → Bool → model.Monitor
+      viewAt n x = record { date = 0; pending = []; schedule = []; configuration = record { location = initial s; x = 0; y = n }; last = 0; lit = x }
+
+      go : (one : Bool) → viewAt (cond one top 0) (isLit (modelOf s) (located (initial s) (0 ∷ cond one top 0 ∷ [])) []) ≡ withLamp (modelOf s) (viewAt (cond one top (min 0 top)) false)
       go true = refl
       go false = refl
 
-  pub fresh-right : length b ≡ maxSize → LiveTable s live → length pending ≡ maxCount → length slots ≡ maxScheduled → FreshRight s (madeOf s b live pending slots y)
-  unfolding replay
-  fresh-right n t p q =
-      let v : viewOf (madeOf s b live pending slots y) ≡ freshMonitor (automaton (take (length s) b)) = rw front fresh-view in
+  pub fresh-right : length b ≡ maxSize → LiveTable s live → length pending ≡ maxCount → length slots ≡ maxScheduled → lit ≡ isLit (modelOf s) (located (initial s) (0 ∷ y ∷ [])) [] → FreshRight s (madeOf s b live pending slots y lit)
+  fresh-right n t p q none =
+      let v : viewOf (madeOf s b live pending slots y lit) ≡ freshMonitor (automaton (take (length s) b)) = rw front (fresh-view none) in
+      let w : StandsFor (automaton (take (length s) b)) (viewOf (madeOf s b live pending slots y lit)) (fresh (automaton (take (length s) b))) =
+      subst⁻¹ (λ (x : model.Monitor). StandsFor (automaton (take (length s) b)) x (fresh (automaton (take (length s) b)))) v (model-laws.fresh-stands (automaton (take (length s) b)) (bounded (take (length s) b) (rw front loads))) in
       record {
         is = v;
+        stands = w;
         sheet = front;
         valid = record {
           sound = record {
@@ -96,12 +107,11 @@ module _ (s b : Bytes) (live pending : List ℕ) (slots : List Slot) (y : ℕ) (
               held-fits = omega arith;
               schedule-sized = q;
               planned-fits = omega arith;
-              standing = rw front fresh-stands;
+              standing = rw front (fresh-stands s y loads second);
               date-fits = omega arith;
               last-fits = omega arith;
             };
           };
-          past = [];
-          reached = v;
+          recorded = record { past = []; outcomes = []; history = fresh (automaton (take (length s) b)); recorded = end; stands = w };
         };
       }

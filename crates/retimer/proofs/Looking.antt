@@ -12,7 +12,7 @@ use borrow.Author.Tests.{ltb-true, lt-ltb, eqb-true, eqb-false}
 use Rattle.enforcement.specs.Automaton.{Bytes, Transition, accepting, actions, byte, word, transitionAt}
 use Rattle.enforcement.specs.TimedWord.{Configuration, fire}
 use Rattle.enforcement.specs.Model.{prospect}
-use Rattle.enforcement.specs.Monitor.{noneNext}
+use Rattle.enforcement.specs.Monitor.{noneNext, isLit}
 use Rattle.enforcement.proofs.Tests.{true-false}
 use Rattle.retimer.specs.Readings.{waited, resetBy, located, Standing}
 use Rattle.retimer.specs.Optimum.{modelOf, LampAsked}
@@ -25,6 +25,7 @@ use Rattle.retimer.proofs.ProspectKinds.{Saturated}
 use Rattle.retimer.specs.Next.{Opens, LeadsFor, LeadsLive, LeadsAsked}
 use Rattle.retimer.proofs.Singles.{LiveIn, EndsFor, NextLives, single-ends, single-lives, next-lives, none-next-finds}
 use Rattle.retimer.proofs.Played.{ends-is, lives-is, dead-is}
+use Rattle.retimer.proofs.Stuck.{lit-empty}
 
 -- ---- Whether a transition is enabled after some wait
 
@@ -89,8 +90,8 @@ looking-begun s live c l r w v n a d e f =
     }
 
 module _ {s : Bytes} {c l : ℕ} {r : List ℕ} {found : Bool} {p e : ℕ} (m : Looking s c l r found p e) where
-  pub looking-correct : p < e → Opens c r (transitionAt s p) → accepting s (byte s (p + 1)) ≡ true → Correct ≡ outlookOf (prospect (modelOf s) (c ∷ []) (located l r))
-  looking-correct h o a = ends-is (prospect (modelOf s) (c ∷ []) (located l r)) (left-found (m .ends) h (o, a))
+  pub looking-correct : (x : Bool) → p < e → Opens c r (transitionAt s p) → accepting s (byte s (p + 1)) ≡ true → Correct ≡ outlookOf (prospect (modelOf s) (c ∷ []) (located l r)) x
+  looking-correct x h o a = ends-is (prospect (modelOf s) (c ∷ []) (located l r)) x (left-found (m .ends) h (o, a))
 
   -- It is for another action, or never enabled.
   pub looking-other : p < e → (Opens c r (transitionAt s p) → ⊥) → Looking s c l r found (p + 7) e
@@ -111,11 +112,11 @@ module _ {s : Bytes} {c l : ℕ} {r : List ℕ} {found : Bool} {p e : ℕ} (m : 
     lives = left-passed (m .lives) h (λ v. w (v .1));
   }
 
-  pub looking-extensible : e ≤ p → found ≡ true → Extensible ≡ outlookOf (prospect (modelOf s) (c ∷ []) (located l r))
-  looking-extensible h f = lives-is (prospect (modelOf s) (c ∷ []) (located l r)) (left-none (m .ends) h .0) (left-none (m .lives) h .1 f)
+  pub looking-extensible : (x : Bool) → e ≤ p → found ≡ true → Extensible ≡ outlookOf (prospect (modelOf s) (c ∷ []) (located l r)) x
+  looking-extensible x h f = lives-is (prospect (modelOf s) (c ∷ []) (located l r)) x (left-none (m .ends) h .0) (left-none (m .lives) h .1 f)
 
-  pub looking-none : e ≤ p → found ≡ false → Dead ≡ outlookOf (prospect (modelOf s) (c ∷ []) (located l r))
-  looking-none h f = dead-is (prospect (modelOf s) (c ∷ []) (located l r)) (λ w. true-false (left-none (m .lives) h .0 w) f)
+  pub looking-none : {x : Bool} → e ≤ p → found ≡ false → x ≡ noneNext (modelOf s) (located l r) (actions s) → Dead x ≡ outlookOf (prospect (modelOf s) (c ∷ []) (located l r)) (isLit (modelOf s) (located l r) [])
+  looking-none {x} h f k = dead-is (prospect (modelOf s) (c ∷ []) (located l r)) (λ w. true-false (left-none (m .lives) h .0 w) f) (lit-empty s (located l r) [] x refl k)
 
 -- ---- Any next action
 

@@ -1,21 +1,35 @@
--- The prospect where all is played, and the answer for a prospect.
+-- What is live before a wait, the prospect where all is played, and the answer for a prospect.
 -- Assumes nothing.
-use mathlib.Core.Path.{_≡_, refl, _∙_, subst, subst⁻¹}
+use mathlib.Core.Path.{_≡_, refl, ap, _∙_, subst, subst⁻¹}
 use mathlib.Core.Bool.{Bool, true, false, cond}
 use mathlib.Core.List.{[]}
 use mathlib.Core.Logic.{_↔_}
-use Rattle.enforcement.specs.Automaton.{Bytes, accepting, automaton}
+use Prim.Native.Nat.{ℕ, zero, suc, _+_}
+use native.Mathlib.Omega.{arith}
+use Rattle.enforcement.specs.Automaton.{Bytes, accepting, actions, automaton}
 use Rattle.enforcement.specs.Loading.{Loads}
-use Rattle.enforcement.specs.TimedWord.{Configuration}
-use Rattle.enforcement.specs.Model.{Prospect, ticks, extensible, dead, ended, compile, prospect}
+use Rattle.enforcement.specs.TimedWord.{Configuration, step}
+use Rattle.enforcement.specs.Model.{advance, Prospect, ticks, extensible, dead, ended, compile, prospect}
+use Rattle.enforcement.specs.Monitor.{isDead}
 use Rattle.enforcement.proofs.Equations.{prospect-nil}
-use Rattle.enforcement.proofs.Liveness.{here}
+use Rattle.enforcement.proofs.Liveness.{Live, here, tick}
 use Rattle.enforcement.proofs.Compilation.{live-search}
 use Rattle.enforcement.proofs.Loading.{bounded}
 use Rattle.retimer.specs.declared.outlook.Outlook.the-variants.{Correct, Extensible, Dead}
 use Rattle.retimer.specs.Optimum.{modelOf}
 use Rattle.retimer.specs.Outlook.{outlookOf, Ends, Lives}
-use Rattle.retimer.proofs.ProspectKinds.{Saturated}
+use Rattle.retimer.proofs.ProspectKinds.{Saturated, advance-none, advance-more}
+
+-- ---- Waiting adds nothing that is live
+
+pub sooner-lives : (s : Bytes) (n : ℕ) (p : Configuration) → Saturated p → Live (step (automaton s)) (accepting s) (actions s) (advance n p) → Live (step (automaton s)) (accepting s) (actions s) p
+sooner-lives s zero p h m = subst (Live (step (automaton s)) (accepting s) (actions s)) (advance-none p h) m
+sooner-lives s (suc n) p h m =
+    let e : 1 + n ≡ suc n = omega arith in
+    tick (sooner-lives s n (advance 1 p) (omega arith, omega arith) (subst⁻¹ (Live (step (automaton s)) (accepting s) (actions s)) (advance-more 1 n p ∙ ap (λ (k : ℕ). advance k p) e) m))
+
+pub sooner-live : (s : Bytes) → Loads s → (n : ℕ) (p : Configuration) → Saturated p → modelOf s .live (advance n p) ≡ true → modelOf s .live p ≡ true
+sooner-live s loads n p h m = live-search (automaton s) (bounded s loads) p (h .0) (h .1) .1 (sooner-lives s n p h (live-search (automaton s) (bounded s loads) (advance n p) (omega arith) (omega arith) .0 m))
 
 -- ---- All is played
 
@@ -49,17 +63,24 @@ lives-nil s loads q k = (λ h. to (accepting s (q .location)) refl (modelOf s .l
 
 -- ---- The answer
 
-pub ends-is : (a : Prospect) → Ends a → Correct ≡ outlookOf a
-ends-is (ticks n) h = refl
-ends-is extensible h = absurd h
-ends-is dead h = absurd h
+pub ends-is : (a : Prospect) (x : Bool) → Ends a → Correct ≡ outlookOf a x
+ends-is (ticks n) x h = refl
+ends-is extensible x h = absurd h
+ends-is dead x h = absurd h
 
-pub lives-is : (a : Prospect) → (Ends a → ⊥) → Lives a → Extensible ≡ outlookOf a
-lives-is (ticks n) h k = absurd (h tt)
-lives-is extensible h k = refl
-lives-is dead h k = absurd k
+pub lives-is : (a : Prospect) (x : Bool) → (Ends a → ⊥) → Lives a → Extensible ≡ outlookOf a x
+lives-is (ticks n) x h k = absurd (h tt)
+lives-is extensible x h k = refl
+lives-is dead x h k = absurd k
 
-pub dead-is : (a : Prospect) → (Lives a → ⊥) → Dead ≡ outlookOf a
-dead-is (ticks n) h = absurd (h tt)
-dead-is extensible h = absurd (h tt)
-dead-is dead h = refl
+pub dead-is : (a : Prospect) {x y : Bool} → (Lives a → ⊥) → y ≡ x → Dead y ≡ outlookOf a x
+dead-is (ticks n) h e = absurd (h tt)
+dead-is extensible h e = absurd (h tt)
+dead-is dead h e = ap Dead e
+
+-- What is false just when the prospect is not dead.
+pub dark-is : (a : Prospect) (x : Bool) → (x ≡ false) ↔ Lives a → x ≡ isDead a
+dark-is (ticks n) x h = h .1 tt
+dark-is extensible x h = h .1 tt
+dark-is dead true h = refl
+dark-is dead false h = absurd (h .0 refl)

@@ -78,13 +78,4 @@ replaying-all {sheet} {b₀} {b} {s} {i} k f p h =
     let n : i / 5 ≡ length s / 5 = omega (arith, p .whole, p .inside) in
     let m : Made b₀ (callsOf s) (p .answers) b = rw n at (p .made) in
     let d : CodeDemand3 sheet (callsOf s) (p .answers) b = code-demand-3 sheet b₀ f (callsOf s) (p .answers) b m in
-    record {
-      outcomes = outcomesOf (p .answers);
-      history = d .history;
-      recorded = d .recorded;
-      answer-is = p .last-is;
-      held-count = λ h e. p .held-count h e ∙ ap length (d .stands .pending-is);
-      stands = d .stands;
-      sheet-is = d .sheet-is;
-      valid = d .valid;
-    }
+    record { answers = p .answers; demand-3 = d; answer-is = p .last-is; held-count = λ h e. p .held-count h e ∙ ap length (d .stands .pending-is) }

@@ -1,8 +1,9 @@
 -- Laws of the box's state as the model sees it: its lists, the changes that calls make, and what each part of a call promises of them.
 -- Assumes nothing.
-use mathlib.Core.Path.{_≡_, refl, ap, sym, _∙_, subst}
+use mathlib.Core.Path.{_≡_, refl, ap, ap₂, sym, _∙_, subst}
+use mathlib.Core.Bool.{Bool, false}
 use mathlib.Core.List.{List, [], _∷_, _++_, map, map-append}
-use Prim.Native.Nat.{ℕ, zero, suc, _+_, _-_, _≤_, _<_}
+use Prim.Native.Nat.{ℕ, zero, suc, _+_, _-_, _≤_, _<_, max}
 use native.Mathlib.Omega.{arith}
 use native.Mathlib.Numerals.{add-one}
 use lib.Dec.{leb}
@@ -14,7 +15,8 @@ use Rattle.enforcement.specs.Automaton.{Bytes}
 use Rattle.enforcement.specs.TimedWord.{Configuration}
 use Rattle.enforcement.specs.History.{Request, actionsOf, place, Outcome, scheduled, held, dropped, played, nothing}
 use Rattle.enforcement.specs.History as history
-use Rattle.enforcement.specs.Monitor.{same, dated, joins, earliest, standing, walk, placed, kept, taken, oldest}
+use Rattle.enforcement.specs.Model.{Compiled, advance}
+use Rattle.enforcement.specs.Monitor.{isLit, lampLit, withLamp, same, dated, joins, earliest, standing, walk, placed, kept, taken, oldest}
 use Rattle.enforcement.specs.Monitor as model
 use Rattle.retimer.specs.declared.limits.Slot.{Slot}
 use Rattle.retimer.specs.declared.limits.State.{State}
@@ -24,10 +26,11 @@ use Rattle.retimer.specs.declared.state.Moved.{Moved}
 use Rattle.retimer.specs.declared.reason.Reason.{Reason}
 use Rattle.retimer.specs.declared.reason.Reason.the-variants.{S2, S3, S4}
 use Rattle.retimer.specs.Reasons.{reasonOf}
-use Rattle.retimer.specs.Readings.{Standing}
+use Rattle.retimer.specs.Readings.{located, Standing}
 use Rattle.retimer.specs.Optimum.{modelOf}
 use Rattle.retimer.specs.View.{requestOf, slotOf, scheduleOf, view, StateSound}
-use Rattle.retimer.specs.Calls.{movedOf, movedTo, Idle, Done, lastAction, newDates, PlaceAsked, placedOf}
+use Rattle.retimer.specs.Calls.{movedOf, movedTo, lampWith, lampAt, Idle, Done, lastAction, newDates, PlaceAsked, placedOf}
+use Rattle.retimer.proofs.ProspectKinds.{advance-none}
 
 -- ---- The lists
 
@@ -69,15 +72,15 @@ module _ {s : Bytes} {live : List ℕ} where
 
 -- One more action is pending.
 abbrev pub holding : State → ℕ → ℕ → State
-holding q c t = record { date = t; pending = set (q .pending) (q .held) c; held = q .held + 1; schedule = q .schedule; planned = q .planned; location = q .location; readings = q .readings; last = q .last }
+holding q c t = record { date = t; pending = set (q .pending) (q .held) c; held = q .held + 1; schedule = q .schedule; planned = q .planned; location = q .location; readings = q .readings; last = q .last; lit = false }
 
 -- The pending actions and one more are scheduled.
-abbrev pub placing : State → ℕ → List Slot → ℕ → List ℕ → ℕ → State
-placing q t slots l r last = record { date = t; pending = q .pending; held = 0; schedule = slots; planned = q .planned + (q .held + 1); location = l; readings = r; last = last }
+abbrev pub placing : State → ℕ → List Slot → ℕ → List ℕ → ℕ → Bool → State
+placing q t slots l r last lit = record { date = t; pending = q .pending; held = 0; schedule = slots; planned = q .planned + (q .held + 1); location = l; readings = r; last = last; lit = lit }
 
 -- The oldest scheduled event is played.
-abbrev pub playing : State → ℕ → List Slot → State
-playing q t slots = record { date = t; pending = q .pending; held = q .held; schedule = slots; planned = q .planned - 1; location = q .location; readings = q .readings; last = q .last }
+abbrev pub playing : State → ℕ → List Slot → Bool → State
+playing q t slots lit = record { date = t; pending = q .pending; held = q .held; schedule = slots; planned = q .planned - 1; location = q .location; readings = q .readings; last = q .last; lit = lit }
 
 -- Neither "refused" nor "held".
 abbrev pub Plain : Answer → Type 0
@@ -93,6 +96,16 @@ Plain (Refused p) = ⊥
 abbrev pub answering : Outcome → model.Monitor → model.Answered
 answering o v = record { outcome = o; monitor = v }
 
+-- A view with other lists, another configuration and another lamp.
+view-path : {t last : ℕ} {rs rs′ : List Request} {ss ss′ : List history.Slot} {x x′ : Configuration} {l l′ : Bool} → rs ≡ rs′ → ss ≡ ss′ → x ≡ x′ → l ≡ l′
+    → _≡_ {A = model.Monitor} (record { date = t; pending = rs; schedule = ss; configuration = x; last = last; lit = l }) (record { date = t; pending = rs′; schedule = ss′; configuration = x′; last = last; lit = l′ })
+view-path {t} {last} d e f g = λ i. record { date = t; pending = d i; schedule = e i; configuration = f i; last = last; lit = g i }
+
+-- Only the date and the lamp moved.
+moved-view : (s : Bytes) (q : State) (t : ℕ) (lit : Bool) → lit ≡ lampAt s q t → view (movedTo q t lit) ≡ dated (modelOf s) (view q) t
+unfolding view lampLit
+moved-view s q t lit l = view-path refl refl refl l
+
 -- ---- What the parts of a call promise
 
 module _ {s : Bytes} {live : List ℕ} where
@@ -103,34 +116,33 @@ module _ {s : Bytes} {live : List ℕ} where
   pub refused-done : (q : State) (p : Reason) (w : model.Answered) → StateSound s live q → same (view q) (reasonOf p) ≡ w → Done s live q w (record { state = q; answer = Refused p })
   refused-done q p w f e = record { is = e; sound = f; refused-same = λ x k. refl; idle-same = λ z. absurd z; held-count = λ n k. let z : _≡_ {A = ℕ} 0 1 = cc in absurd (omega arith) }
 
-  pub plain-done : (q : State) (w : model.Answered) (r : Moved) → Plain (r .answer) → (Idle (r .answer) → r .state ≡ movedTo q (r .state .date)) → movedOf r ≡ w → StateSound s live (r .state) → Done s live q w r
+  pub plain-done : (q : State) (w : model.Answered) (r : Moved) → Plain (r .answer) → (Idle (r .answer) → r .state ≡ movedTo q (r .state .date) (r .state .lit)) → movedOf r ≡ w → StateSound s live (r .state) → Done s live q w r
   plain-done q w r p i e f = record { is = e; sound = f; idle-same = i; refused-same = λ x k. absurd (subst Plain k p); held-count = λ n k. absurd (subst Plain k p) }
 
-  moved-sound : (q : State) (t : ℕ) → StateSound s live q → t ≤ maxDate → StateSound s live (movedTo q t)
-  moved-sound q t f h = record { loads = f .loads; table = f .table; pending-sized = f .pending-sized; held-fits = f .held-fits; schedule-sized = f .schedule-sized; planned-fits = f .planned-fits; standing = f .standing; date-fits = h; last-fits = f .last-fits }
+  moved-sound : (q : State) (t : ℕ) (lit : Bool) → StateSound s live q → t ≤ maxDate → StateSound s live (movedTo q t lit)
+  moved-sound q t lit f h = record { loads = f .loads; table = f .table; pending-sized = f .pending-sized; held-fits = f .held-fits; schedule-sized = f .schedule-sized; planned-fits = f .planned-fits; standing = f .standing; date-fits = h; last-fits = f .last-fits }
 
   -- Case 3.
-  pub dropped-done : (q : State) (t : ℕ) (w : model.Answered) → StateSound s live q → t ≤ maxDate → answering dropped (dated (view q) t) ≡ w → Done s live q w (record { state = movedTo q t; answer = Dropped })
-  unfolding view
-  dropped-done q t w f h e = plain-done q w (record { state = movedTo q t; answer = Dropped }) tt (λ z. refl) e (moved-sound q t f h)
+  pub dropped-done : (q : State) (t : ℕ) (lit : Bool) (w : model.Answered) → StateSound s live q → t ≤ maxDate → lit ≡ lampAt s q t → answering dropped (dated (modelOf s) (view q) t) ≡ w → Done s live q w (record { state = movedTo q t lit; answer = Dropped })
+  dropped-done q t lit w f h l e = plain-done q w (record { state = movedTo q t lit; answer = Dropped }) tt (λ z. refl) (ap (answering dropped) (moved-view s q t lit l) ∙ e) (moved-sound q t lit f h)
 
   -- Case 2.
   holding-sound : (q : State) (c t : ℕ) → StateSound s live q → t ≤ maxDate → q .held < maxCount → StateSound s live (holding q c t)
   holding-sound q c t f h k = record { loads = f .loads; table = f .table; pending-sized = length-set (q .pending) (q .held) c ∙ f .pending-sized; held-fits = omega arith; schedule-sized = f .schedule-sized; planned-fits = f .planned-fits; standing = f .standing; date-fits = h; last-fits = f .last-fits }
 
-  holding-is : (q : State) (c t : ℕ) → StateSound s live q → q .held < maxCount → record { outcome = held; monitor = view (holding q c t) } ≡ kept (view q) c t (leb maxCount (length (view q .pending)))
-  unfolding kept view
-  holding-is q c t f k =
+  holding-is : (q : State) (c t : ℕ) → StateSound s live q → q .held < maxCount → lampWith s q t (actionsOf (joins (view q) c)) ≡ false → answering held (view (holding q c t)) ≡ kept (modelOf s) (view q) c t (leb maxCount (length (view q .pending)))
+  unfolding kept view lampLit
+  holding-is q c t f k d =
       let e : take (q .held + 1) (set (q .pending) (q .held) c) ≡ take (q .held) (q .pending) ++ (c ∷ []) = rw (add-one, take-suc-set (q .pending) (q .held) c (omega (arith, f .pending-sized))) in
-      rw (e, map-append, length-map, length-take-le (q .held) (q .pending) (omega (arith, f .pending-sized)), lt-leb maxCount (q .held) k)
+      rw (pending-length q f, lt-leb maxCount (q .held) k) (ap (answering held) (view-path (ap (map requestOf) e ∙ sym (joins-requests q c)) refl refl (sym d)))
 
-  pub full-done : (q : State) (c t : ℕ) → StateSound s live q → maxCount ≤ q .held → Done s live q (kept (view q) c t (leb maxCount (length (view q .pending)))) (record { state = q; answer = Refused S4 })
+  pub full-done : (q : State) (c t : ℕ) → StateSound s live q → maxCount ≤ q .held → Done s live q (kept (modelOf s) (view q) c t (leb maxCount (length (view q .pending)))) (record { state = q; answer = Refused S4 })
   unfolding kept
-  full-done q c t f h = refused-done q S4 (kept (view q) c t (leb maxCount (length (view q .pending)))) f (rw (pending-length q f, le-leb maxCount (q .held) h))
+  full-done q c t f h = refused-done q S4 (kept (modelOf s) (view q) c t (leb maxCount (length (view q .pending)))) f (rw (pending-length q f, le-leb maxCount (q .held) h))
 
-  pub held-done : (q : State) (c t : ℕ) → StateSound s live q → t ≤ maxDate → q .held < maxCount → Done s live q (kept (view q) c t (leb maxCount (length (view q .pending)))) (record { state = holding q c t; answer = Held (q .held + 1) })
-  held-done q c t f h k = record {
-    is = holding-is q c t f k;
+  pub held-done : (q : State) (c t : ℕ) → StateSound s live q → t ≤ maxDate → q .held < maxCount → lampWith s q t (actionsOf (joins (view q) c)) ≡ false → Done s live q (kept (modelOf s) (view q) c t (leb maxCount (length (view q .pending)))) (record { state = holding q c t; answer = Held (q .held + 1) })
+  held-done q c t f h k d = record {
+    is = holding-is q c t f k d;
     sound = holding-sound q c t f h k;
     refused-same = λ p e. let z : _≡_ {A = ℕ} 0 1 = cc in absurd (omega arith);
     idle-same = λ z. absurd z;
@@ -148,82 +160,93 @@ module _ {s : Bytes} {live : List ℕ} where
       refused-done q S3 (placedOf s q t cs ds last) f
       (rw (le-ltb maxDate last h, schedule-length q f, joins-length q (lastAction q cs) f, lt-ltb (maxScheduled - q .planned) (q .held + 1) k))
 
-  placing-sound : (q : State) (t : ℕ) (slots : List Slot) (l : ℕ) (r : List ℕ) (last : ℕ) → StateSound s live q → t ≤ maxDate → length slots ≡ maxScheduled → q .planned + (q .held + 1) ≤ maxScheduled → Standing s l r → last ≤ maxDate → StateSound s live (placing q t slots l r last)
-  placing-sound q t slots l r last f h k n p e = record { loads = f .loads; table = f .table; pending-sized = f .pending-sized; held-fits = omega arith; schedule-sized = k; planned-fits = n; standing = p; date-fits = h; last-fits = e }
-
--- A view with another schedule and configuration.
-view-path : {t last : ℕ} {rs : List Request} {ss ss′ : List history.Slot} {x x′ : Configuration} → ss ≡ ss′ → x ≡ x′ → _≡_ {A = model.Monitor} (record { date = t; pending = rs; schedule = ss; configuration = x; last = last }) (record { date = t; pending = rs; schedule = ss′; configuration = x′; last = last })
-view-path {t} {last} {rs} e f = λ i. record { date = t; pending = rs; schedule = e i; configuration = f i; last = last }
+  placing-sound : (q : State) (t : ℕ) (slots : List Slot) (l : ℕ) (r : List ℕ) (last : ℕ) (lit : Bool) → StateSound s live q → t ≤ maxDate → length slots ≡ maxScheduled → q .planned + (q .held + 1) ≤ maxScheduled → Standing s l r → last ≤ maxDate → StateSound s live (placing q t slots l r last lit)
+  placing-sound q t slots l r last lit f h k n p e = record { loads = f .loads; table = f .table; pending-sized = f .pending-sized; held-fits = omega arith; schedule-sized = k; planned-fits = n; standing = p; date-fits = h; last-fits = e }
 
 -- What place works out.
-module _ {s : Bytes} {live : List ℕ} (q : State) (t : ℕ) (cs ds : List ℕ) (l : ℕ) (r : List ℕ) (last : ℕ) (slots : List Slot) (p : PlaceAsked s live q t cs ds l r)
-    (e : map slotOf (take (q .planned + (q .held + 1)) slots) ≡ map slotOf (take (q .planned) (q .schedule)) ++ place (map requestOf (take (q .held + 1) cs)) (take (q .held + 1) ds)) where
-  placing-view : view (placing q t slots l r last) ≡ record {
+module _ {s : Bytes} {live : List ℕ} (q : State) (t : ℕ) (cs ds : List ℕ) (l : ℕ) (r : List ℕ) (last : ℕ) (slots : List Slot) (lit : Bool) (p : PlaceAsked s live q t cs ds last l r)
+    (e : map slotOf (take (q .planned + (q .held + 1)) slots) ≡ map slotOf (take (q .planned) (q .schedule)) ++ place (map requestOf (take (q .held + 1) cs)) (take (q .held + 1) ds)) (none : lit ≡ isLit (modelOf s) (located l r) []) where
+  -- Where the actions end.
+  abbrev ending : Configuration
+  ending = walk (modelOf s .step) (actionsOf (joins (view q) (lastAction q cs))) (newDates q ds) (earliest (view q) t) (standing (view q) t)
+
+  -- That is also where the next one can be played.
+  ends-here : located l r ≡ advance (max t last - last) ending
+  ends-here =
+      let z : max t last - last ≡ 0 = omega (arith, p .ordered) in
+      sym (advance-none (located l r) (p .stands .readings .first, p .stands .readings .second)) ∙ ap₂ advance (sym z) (p .reached)
+
+  placing-view : view (placing q t slots l r last lit) ≡ withLamp (modelOf s) (record {
     date = t;
     pending = [];
     schedule = view q .schedule ++ place (joins (view q) (lastAction q cs)) (newDates q ds);
-    configuration = walk (modelOf s .step) (actionsOf (joins (view q) (lastAction q cs))) (newDates q ds) (earliest (view q) t) (standing (view q) t);
+    configuration = ending;
     last = last;
-  }
-  unfolding view
+    lit = view q .lit;
+  })
+  unfolding view lampLit
   placing-view =
       let z : map requestOf (take (q .held + 1) cs) ≡ joins (view q) (lastAction q cs) = ap (map requestOf) (p .joined) ∙ sym (joins-requests q (lastAction q cs)) in
-      view-path (e ∙ ap (λ (rs : List Request). scheduleOf q ++ place rs (newDates q ds)) z) (p .reached)
+      view-path refl (e ∙ ap (λ (rs : List Request). scheduleOf q ++ place rs (newDates q ds)) z) (p .reached) (none ∙ ap (λ (x : Configuration). isLit (modelOf s) x []) ends-here)
 
   module _ (d : length ds ≡ maxCount + 1) (h : last ≤ maxDate) (k : q .held + 1 ≤ maxScheduled - q .planned) where
-    placing-is : answering (scheduled (q .held + 1) last) (view (placing q t slots l r last)) ≡ placedOf s q t cs ds last
+    placing-is : answering (scheduled (q .held + 1) last) (view (placing q t slots l r last lit)) ≡ placedOf s q t cs ds last
     unfolding placed
     placing-is =
         rw (le-ltb maxDate last h, schedule-length q (p .sound), joins-length q (lastAction q cs) (p .sound), le-ltb (maxScheduled - q .planned) (q .held + 1) k, length-take-le (q .held + 1) ds (omega (arith, p .sound .held-fits)))
         (ap (answering (scheduled (q .held + 1) last)) placing-view)
 
-    pub placed-done : length slots ≡ maxScheduled → Done s live q (placedOf s q t cs ds last) (record { state = placing q t slots l r last; answer = Scheduled (q .held + 1) last })
+    pub placed-done : length slots ≡ maxScheduled → Done s live q (placedOf s q t cs ds last) (record { state = placing q t slots l r last lit; answer = Scheduled (q .held + 1) last })
     placed-done n =
-        plain-done q (placedOf s q t cs ds last) (record { state = placing q t slots l r last; answer = Scheduled (q .held + 1) last }) tt (λ z. absurd z) placing-is
-        (placing-sound q t slots l r last (p .sound) (p .early) n (omega (arith, p .sound .planned-fits)) (p .stands) h)
+        plain-done q (placedOf s q t cs ds last) (record { state = placing q t slots l r last lit; answer = Scheduled (q .held + 1) last }) tt (λ z. absurd z) placing-is
+        (placing-sound q t slots l r last lit (p .sound) (p .early) n (omega (arith, p .sound .planned-fits)) (p .stands) h)
 
--- A collection.
-oldest-none : (v : model.Monitor) (t : ℕ) (ss : List history.Slot) → ss ≡ [] → answering nothing (dated v t) ≡ oldest v t ss
-unfolding oldest
-oldest-none v t ss e = rw e
+-- ---- A collection
 
-oldest-early : (v : model.Monitor) (t : ℕ) (ss : List history.Slot) (e : history.Slot) (rest : List history.Slot) → ss ≡ e ∷ rest → t < e .date → answering nothing (dated v t) ≡ oldest v t ss
-unfolding oldest taken
-oldest-early v t ss e rest z h = rw (z, lt-leb (e .date) t h)
+module _ (m : Compiled) (v : model.Monitor) (t : ℕ) where
+  oldest-none : (ss : List history.Slot) → ss ≡ [] → answering nothing (dated m v t) ≡ oldest m v t ss
+  unfolding oldest
+  oldest-none ss e = rw e
 
-oldest-played : (v : model.Monitor) (t : ℕ) (ss : List history.Slot) (e : history.Slot) (rest : List history.Slot) → ss ≡ e ∷ rest → e .date ≤ t
-    → answering (played (e .request .action) (e .date)) (record { date = t; pending = v .pending; schedule = rest; configuration = v .configuration; last = v .last }) ≡ oldest v t ss
-unfolding oldest taken
-oldest-played v t ss e rest z h = rw (z, le-leb (e .date) t h)
+  oldest-early : (ss : List history.Slot) (e : history.Slot) (rest : List history.Slot) → ss ≡ e ∷ rest → t < e .date → answering nothing (dated m v t) ≡ oldest m v t ss
+  unfolding oldest taken
+  oldest-early ss e rest z h = rw (z, lt-leb (e .date) t h)
 
-empty-is : (q : State) (t : ℕ) → q .planned ≡ 0 → answering nothing (view (movedTo q t)) ≡ oldest (view q) t (view q .schedule)
-unfolding view
-empty-is q t z = oldest-none (view q) t (scheduleOf q) (rw z)
+  oldest-played : (ss : List history.Slot) (e : history.Slot) (rest : List history.Slot) → ss ≡ e ∷ rest → e .date ≤ t
+      → answering (played (e .request .action) (e .date)) (withLamp m (record { date = t; pending = v .pending; schedule = rest; configuration = v .configuration; last = v .last; lit = v .lit })) ≡ oldest m v t ss
+  unfolding oldest taken
+  oldest-played ss e rest z h = rw (z, le-leb (e .date) t h)
 
 -- The oldest scheduled event.
 abbrev first : State → Slot
 first q = getD (q .schedule) 0 (record { action = 0; date = 0 })
 
-module _ {s : Bytes} {live : List ℕ} where
-  early-is : (q : State) (t : ℕ) → StateSound s live q → 0 < q .planned → t < first q .date → answering nothing (view (movedTo q t)) ≡ oldest (view q) t (view q .schedule)
+module _ {s : Bytes} {live : List ℕ} (q : State) (t : ℕ) (lit : Bool) (f : StateSound s live q) (h : t ≤ maxDate) (l : lit ≡ lampAt s q t) where
+  -- The state and the model's answer.
+  abbrev waiting : Moved
+  waiting = record { state = movedTo q t lit; answer = Nothing }
+
+  abbrev answered : model.Answered
+  answered = oldest (modelOf s) (view q) t (view q .schedule)
+
+  none-done : answering nothing (dated (modelOf s) (view q) t) ≡ answered → Done s live q answered waiting
+  none-done e = plain-done q answered waiting tt (λ z. refl) (ap (answering nothing) (moved-view s q t lit l) ∙ e) (moved-sound q t lit f h)
+
+  pub empty-done : q .planned ≡ 0 → Done s live q answered waiting
   unfolding view
-  early-is q t f k h = oldest-early (view q) t (scheduleOf q) _ _ (schedule-front q f k) h
+  empty-done z = none-done (oldest-none (modelOf s) (view q) t (scheduleOf q) (rw z))
 
-  played-is : (q : State) (t : ℕ) (slots : List Slot) → StateSound s live q → 0 < q .planned → first q .date ≤ t → take (q .planned - 1) slots ≡ drop 1 (take (q .planned) (q .schedule))
-      → answering (played (first q .action) (first q .date)) (view (playing q t slots)) ≡ oldest (view q) t (view q .schedule)
+  pub early-done : 0 < q .planned → t < first q .date → Done s live q answered waiting
   unfolding view
-  played-is q t slots f k h e = rw e (oldest-played (view q) t (scheduleOf q) _ _ (schedule-front q f k) h)
+  early-done k e = none-done (oldest-early (modelOf s) (view q) t (scheduleOf q) _ _ (schedule-front q f k) e)
 
-  playing-sound : (q : State) (t : ℕ) (slots : List Slot) → StateSound s live q → t ≤ maxDate → length slots ≡ maxScheduled → StateSound s live (playing q t slots)
-  playing-sound q t slots f h n = record { loads = f .loads; table = f .table; pending-sized = f .pending-sized; held-fits = f .held-fits; schedule-sized = n; planned-fits = omega (arith, f .planned-fits); standing = f .standing; date-fits = h; last-fits = f .last-fits }
+  module _ (slots : List Slot) (k : 0 < q .planned) (e : first q .date ≤ t) (g : take (q .planned - 1) slots ≡ drop 1 (take (q .planned) (q .schedule))) (n : length slots ≡ maxScheduled) where
+    played-is : answering (played (first q .action) (first q .date)) (view (playing q t slots lit)) ≡ answered
+    unfolding view lampLit
+    played-is = ap (answering (played (first q .action) (first q .date))) (view-path refl (ap (map slotOf) g) refl l) ∙ oldest-played (modelOf s) (view q) t (scheduleOf q) _ _ (schedule-front q f k) e
 
-  pub empty-done : (q : State) (t : ℕ) → StateSound s live q → t ≤ maxDate → q .planned ≡ 0 → Done s live q (oldest (view q) t (view q .schedule)) (record { state = movedTo q t; answer = Nothing })
-  empty-done q t f h z = plain-done q (oldest (view q) t (view q .schedule)) (record { state = movedTo q t; answer = Nothing }) tt (λ z. refl) (empty-is q t z) (moved-sound q t f h)
+    playing-sound : StateSound s live (playing q t slots lit)
+    playing-sound = record { loads = f .loads; table = f .table; pending-sized = f .pending-sized; held-fits = f .held-fits; schedule-sized = n; planned-fits = omega (arith, f .planned-fits); standing = f .standing; date-fits = h; last-fits = f .last-fits }
 
-  pub early-done : (q : State) (t : ℕ) → StateSound s live q → t ≤ maxDate → 0 < q .planned → t < first q .date → Done s live q (oldest (view q) t (view q .schedule)) (record { state = movedTo q t; answer = Nothing })
-  early-done q t f h k e = plain-done q (oldest (view q) t (view q .schedule)) (record { state = movedTo q t; answer = Nothing }) tt (λ z. refl) (early-is q t f k e) (moved-sound q t f h)
-
-  pub played-done : (q : State) (t : ℕ) (slots : List Slot) → StateSound s live q → t ≤ maxDate → 0 < q .planned → first q .date ≤ t → take (q .planned - 1) slots ≡ drop 1 (take (q .planned) (q .schedule)) → length slots ≡ maxScheduled
-      → Done s live q (oldest (view q) t (view q .schedule)) (record { state = playing q t slots; answer = Played (first q .action) (first q .date) })
-  played-done q t slots f h k e g n =
-      plain-done q (oldest (view q) t (view q .schedule)) (record { state = playing q t slots; answer = Played (first q .action) (first q .date) }) tt (λ z. absurd z) (played-is q t slots f k e g) (playing-sound q t slots f h n)
+    pub played-done : Done s live q answered (record { state = playing q t slots lit; answer = Played (first q .action) (first q .date) })
+    played-done = plain-done q answered (record { state = playing q t slots lit; answer = Played (first q .action) (first q .date) }) tt (λ z. absurd z) played-is playing-sound

@@ -1,6 +1,6 @@
 -- What the calls of the box promise.
 use mathlib.Core.Path.{_≡_}
-use mathlib.Core.Bool.{true, false}
+use mathlib.Core.Bool.{Bool, true, false}
 use mathlib.Core.List.{List, _∷_, [], _++_}
 use Prim.Native.Nat.{ℕ, _+_, _-_, _≤_, max}
 use lib.Dec.{ltb}
@@ -8,10 +8,10 @@ use lib.ListN.{length, take, getD, replicate}
 use Rattle.enforcement.specs.Limits.{maxSize, maxCount, maxScheduled, maxDate}
 use Rattle.enforcement.specs.Automaton.{Bytes, automaton}
 use Rattle.enforcement.specs.Loading.{Loads, check}
-use Rattle.enforcement.specs.History.{History, Call, actionsOf, Outcome, scheduled, held, dropped, played, nothing, lit, dark, refused}
+use Rattle.enforcement.specs.History.{History, fresh, Call, actionsOf, Outcome, scheduled, held, dropped, played, nothing, lit, dark, refused}
 use Rattle.enforcement.specs.Monitor as model
 use Rattle.enforcement.specs.Model.{ticks, prospect}
-use Rattle.enforcement.specs.Monitor.{answer, freshMonitor, checked, placed, earliest, standing, joins, walk}
+use Rattle.enforcement.specs.Monitor.{isLit, answer, freshMonitor, checked, placed, earliest, standing, joins, walk}
 use Rattle.enforcement.specs.Demands.{StandsFor, Demand2}
 use Rattle.retimer.specs.declared.limits.State.{State}
 use Rattle.retimer.specs.declared.limits.Monitor.{Monitor}
@@ -50,15 +50,22 @@ movedOf r = record { outcome = outcomeOf (r .answer); monitor = view (r .state) 
 abbrev pub refusal : State → Reason → Moved
 refusal q p = record { state = q; answer = Refused p }
 
--- Only the date moves.
-abbrev pub movedTo : State → ℕ → State
-movedTo q t = record { date = t; pending = q .pending; held = q .held; schedule = q .schedule; planned = q .planned; location = q .location; readings = q .readings; last = q .last }
+-- Only the date and the lamp move.
+abbrev pub movedTo : State → ℕ → Bool → State
+movedTo q t x = record { date = t; pending = q .pending; held = q .held; schedule = q .schedule; planned = q .planned; location = q .location; readings = q .readings; last = q .last; lit = x }
+
+-- The lamp by the rule at date t, with these actions pending, and with those that are.
+abbrev pub lampWith : Bytes → State → ℕ → List ℕ → Bool
+lampWith s q t cs = isLit (modelOf s) (standing (view q) t) cs
+
+abbrev pub lampAt : Bytes → State → ℕ → Bool
+lampAt s q t = lampWith s q t (actionsOf (view q .pending))
 
 -- The box with another state: sheet and table are kept.
 abbrev pub withState : Monitor → State → Monitor
 withState b q = record { bytes = b .bytes; size = b .size; live = b .live; state = q }
 
--- Answers after which only the date may have moved.
+-- Answers after which only the date and the lamp may have moved.
 abbrev pub Idle : Answer → Type 0
 Idle (Scheduled n d) = ⊥
 Idle (Held n) = ⊥
@@ -69,12 +76,12 @@ Idle Lit = Unit {0}
 Idle Dark = Unit {0}
 Idle (Refused r) = ⊥
 
--- What the parts of a call promise: answer and state are those given; a refusal hands back the state that came, and where nothing is held, scheduled or played only its date may have moved; "held" has the held list's own length.
+-- What the parts of a call promise: answer and state are those given; a refusal hands back the state that came, and where nothing is held, scheduled or played only its date and lamp may have moved; "held" has the held list's own length.
 pub record Done (s : Bytes) (live : List ℕ) (q : State) (w : model.Answered) (r : Moved) : Type 0 where
   pub is : movedOf r ≡ w
   pub sound : StateSound s live (r .state)
   pub refused-same : (p : Reason) → r .answer ≡ Refused p → r .state ≡ q
-  pub idle-same : Idle (r .answer) → r .state ≡ movedTo q (r .state .date)
+  pub idle-same : Idle (r .answer) → r .state ≡ movedTo q (r .state .date) (r .state .lit)
   pub held-count : (n : ℕ) → r .answer ≡ Held n → n ≡ length (view (r .state) .pending)
 
 -- The action that joins the pending ones: the last of those to place.
@@ -97,10 +104,11 @@ pub record CorrectAsked (s : Bytes) (live : List ℕ) (q : State) (t : ℕ) (cs 
   pub joined : take (q .held + 1) cs ≡ take (q .held) (q .pending) ++ (lastAction q cs ∷ [])
   pub correctable : (n : ℕ) × (prospect (modelOf s) (take (q .held + 1) cs) (located (q .location) here) ≡ ticks n)
 
--- What it is given then: the pending actions with one more, their dates, and the configuration that these reach.
-pub record PlaceAsked (s : Bytes) (live : List ℕ) (q : State) (t : ℕ) (cs ds : List ℕ) (l : ℕ) (r : List ℕ) : Type 0 where
+-- What it is given then: the pending actions with one more, their dates, the last of them, and the configuration that they reach.
+pub record PlaceAsked (s : Bytes) (live : List ℕ) (q : State) (t : ℕ) (cs ds : List ℕ) (last l : ℕ) (r : List ℕ) : Type 0 where
   pub sound : StateSound s live q
   pub early : t ≤ maxDate
+  pub ordered : t ≤ last
   pub joined : take (q .held + 1) cs ≡ take (q .held) (q .pending) ++ (lastAction q cs ∷ [])
   pub stands : Standing s l r
   pub reached : located l r ≡ walk (modelOf s .step) (actionsOf (joins (view q) (lastAction q cs))) (newDates q ds) (earliest (view q) t) (standing (view q) t)
@@ -115,30 +123,31 @@ pub record MoveRight (s : Bytes) (live : List ℕ) (q : State) (k : Call) (r : M
   pub rule : (h : History) → StandsFor (automaton s) (view q) h → Demand2 (automaton s) h k (movedOf r)
   pub valid : StateValid s live (r .state)
   pub refused-same : (p : Reason) → r .answer ≡ Refused p → r .state ≡ q
-  pub idle-same : Idle (r .answer) → r .state ≡ movedTo q (r .state .date)
+  pub idle-same : Idle (r .answer) → r .state ≡ movedTo q (r .state .date) (r .state .lit)
   pub held-count : (n : ℕ) → r .answer ≡ Held n → n ≡ length (view (r .state) .pending)
 
 -- What a call promises (demand 2): answer and box are the model's; for every history that the box stands for, the answer is the history's, and the box
--- stands for the history after it; the box is one, with bytes and table as they were; a refusal hands back the box that came, and where nothing is held, scheduled or played only
--- its date may have moved; "held" has the held list's own length.
+-- stands for the history after it; the box is one, with bytes and table as they were; a refusal hands back the box that came, lamp included, and where nothing is held, scheduled or
+-- played only its date and lamp may have moved; "held" has the held list's own length.
 pub record CallRight (b : Monitor) (k : Call) (r : Answered) : Type 0 where
   pub is : answeredOf r ≡ answer (modelOf (bytesOf b)) (viewOf b) k
   pub rule : (h : History) → StandsFor (automatonOf b) (viewOf b) h → Demand2 (automatonOf b) h k (answeredOf r)
   pub valid : Valid (r .monitor)
   pub kept : r .monitor ≡ withState b (r .monitor .state)
-  pub idle-same : Idle (r .answer) → r .monitor .state ≡ movedTo (b .state) (r .monitor .state .date)
+  pub idle-same : Idle (r .answer) → r .monitor .state ≡ movedTo (b .state) (r .monitor .state .date) (r .monitor .state .lit)
   pub refused-same : (q : Reason) → r .answer ≡ Refused q → r .monitor ≡ b
   pub held-count : (n : ℕ) → r .answer ≡ Held n → n ≡ length (viewOf (r .monitor) .pending)
 
--- What a fresh box is: a box of the sheet, with nothing pending or scheduled.
+-- What a fresh box is: a box of the sheet that stands for the history of no calls: nothing pending or scheduled, and its lamp by document 01's rule.
 pub record FreshRight (s : Bytes) (b : Monitor) : Type 0 where
   pub is : viewOf b ≡ freshMonitor (automatonOf b)
+  pub stands : StandsFor (automatonOf b) (viewOf b) (fresh (automatonOf b))
   pub sheet : bytesOf b ≡ s
   pub valid : Valid b
 
--- What stands in the box's place where there is none: no sheet, and zeros throughout.
+-- What stands in the box's place where there is none: no sheet, zeros throughout, and a dark lamp.
 unfoldable pub noMonitor : Monitor
-noMonitor = record { bytes = replicate maxSize 0; size = 0; live = replicate countsSize 0; state = record { date = 0; pending = replicate maxCount 0; held = 0; schedule = replicate maxScheduled (record { action = 0; date = 0 }); planned = 0; location = 0; readings = 0 ∷ 0 ∷ []; last = 0 } }
+noMonitor = record { bytes = replicate maxSize 0; size = 0; live = replicate countsSize 0; state = record { date = 0; pending = replicate maxCount 0; held = 0; schedule = replicate maxScheduled (record { action = 0; date = 0 }); planned = 0; location = 0; readings = 0 ∷ 0 ∷ []; last = 0; lit = false } }
 
 -- What a load promises: the check's answer; where that accepts the sheet, a fresh box; where it does not, no box.
 pub record LoadRight (s : Bytes) (r : Loaded) : Type 0 where

@@ -1,5 +1,6 @@
 -- Demand 3 on code: one claim about a list of calls on boxes, made by any functions that keep the promises of the box's calls.
 use mathlib.Core.Path.{_≡_}
+use mathlib.Core.Bool.{true, false, cond}
 use mathlib.Core.List.{List, [], _∷_, map}
 use mathlib.Core.Logic.{_↔_}
 use Prim.Native.Nat.{ℕ}
@@ -11,7 +12,7 @@ use Rattle.retimer.specs.declared.limits.Monitor.{Monitor}
 use Rattle.retimer.specs.declared.state.Answer.{Answer}
 use Rattle.retimer.specs.declared.state.Answer.the-variants.{Dropped, Lit, Dark}
 use Rattle.retimer.specs.declared.monitor.Answered.{Answered}
-use Rattle.retimer.specs.View.{bytesOf, automatonOf, viewOf, Valid}
+use Rattle.retimer.specs.View.{bytesOf, viewOf, Valid}
 use Rattle.retimer.specs.Calls.{outcomeOf, CallRight}
 
 -- A list of calls, each on the box that the one before handed back; their answers, and the last box.
@@ -23,26 +24,19 @@ abbrev pub outcomesOf : List Answer → List Outcome
 outcomesOf xs = map outcomeOf xs
 
 -- Of the calls ks on a fresh box of the sheet s, which answered xs and left the box b. The outcomes are those of the calls' history, which is the only one, and
--- the box stands for it: it has its date, pending actions and schedule, and the configuration and date last reached. A lamp call on b answers "lit" exactly when no run of further offers could get one more action
--- scheduled, else "dark", which is document 01's rule. Once lit, the lamp is lit after every longer list, and there every offer that is not refused for its
+-- the box stands for it: it has its date, pending actions and schedule, and the configuration and date last reached. The lamp that b stores is lit exactly when no run of further offers could get one more action
+-- scheduled, else dark, which is document 01's rule; a lamp call on b answers it. Once lit, the lamp is lit after every longer list, and there every offer that is not refused for its
 -- action or date is dropped.
 pub record CodeDemand3 (s : Bytes) (ks : List Call) (xs : List Answer) (b : Monitor) : Type 0 where
   pub history : History
   pub recorded : HistoryOf (automaton s) (fresh (automaton s)) ks (outcomesOf xs) history
   pub only : (os : List Outcome) (h : History) → HistoryOf (automaton s) (fresh (automaton s)) ks os h → (os ≡ outcomesOf xs) × (h ≡ history)
   pub stands : StandsFor (automaton s) (viewOf b) history
-  pub lit-is : (r : Answered) → CallRight b lamp r → (r .answer ≡ Lit) ↔ (Schedulable (automaton s) history → ⊥)
-  pub dark-is : (r : Answered) → CallRight b lamp r → (r .answer ≡ Dark) ↔ Schedulable (automaton s) history
+  pub lit-is : (b .state .lit ≡ true) ↔ (Schedulable (automaton s) history → ⊥)
+  pub dark-is : (b .state .lit ≡ false) ↔ Schedulable (automaton s) history
   pub rule-is : reference.Dark (automaton s) history ↔ Schedulable (automaton s) history
-  pub stays-lit : (r : Answered) → CallRight b lamp r → r .answer ≡ Lit → (more : List Call) (ys : List Answer) (b′ : Monitor) → Made b more ys b′ → (q : Answered) → CallRight b′ lamp q → q .answer ≡ Lit
-  pub drops : (r : Answered) → CallRight b lamp r → r .answer ≡ Lit → (more : List Call) (ys : List Answer) (b′ : Monitor) → Made b more ys b′ → (c t : ℕ) → InTime (automaton s) (viewOf b′) c t → (q : Answered) → CallRight b′ (offer c t) q → q .answer ≡ Dropped
+  pub answers-lamp : (r : Answered) → CallRight b lamp r → r .answer ≡ cond (b .state .lit) Lit Dark
+  pub stays-lit : b .state .lit ≡ true → (more : List Call) (ys : List Answer) (b′ : Monitor) → Made b more ys b′ → b′ .state .lit ≡ true
+  pub drops : b .state .lit ≡ true → (more : List Call) (ys : List Answer) (b′ : Monitor) → Made b more ys b′ → (c t : ℕ) → InTime (automaton s) (viewOf b′) c t → (q : Answered) → CallRight b′ (offer c t) q → q .answer ≡ Dropped
   pub sheet-is : bytesOf b ≡ s
   pub valid : Valid b
-
--- A box stands for the history of some calls on a fresh box of its sheet: what a call promises for every history that its box stands for, it promises for one.
-pub record Recorded (b : Monitor) : Type 0 where
-  pub past : List Call
-  pub outcomes : List Outcome
-  pub history : History
-  pub recorded : HistoryOf (automatonOf b) (fresh (automatonOf b)) past outcomes history
-  pub stands : StandsFor (automatonOf b) (viewOf b) history

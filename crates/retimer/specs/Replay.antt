@@ -5,15 +5,15 @@ use mathlib.Core.List.{List, [], _∷_}
 use Prim.Native.Nat.{ℕ, zero, suc, _+_, _*_, _/_}
 use lib.Dec.{eqb}
 use lib.ListN.{length}
-use Rattle.enforcement.specs.Automaton.{Bytes, byte, automaton}
-use Rattle.enforcement.specs.History.{History, fresh, HistoryOf, Call, offer, collect, Outcome, nothing}
+use Rattle.enforcement.specs.Automaton.{Bytes, byte}
+use Rattle.enforcement.specs.History.{Call, offer, collect, Outcome, nothing}
 use Rattle.enforcement.specs.Loading.{Loads, check}
-use Rattle.enforcement.specs.Demands.{StandsFor}
+use Rattle.retimer.specs.declared.state.Answer.{Answer}
 use Rattle.retimer.specs.declared.state.Answer.the-variants.{Held, Nothing}
 use Rattle.retimer.specs.declared.replay.Replayed.{Replayed}
 use Rattle.retimer.specs.Checked.{checkedOf}
-use Rattle.retimer.specs.View.{bytesOf, viewOf, Valid}
 use Rattle.retimer.specs.Calls.{outcomeOf, noMonitor}
+use Rattle.retimer.specs.Demand3.{outcomesOf, CodeDemand3}
 
 -- A date in four bytes, low byte first.
 abbrev pub dateAt : Bytes → ℕ → ℕ
@@ -36,17 +36,13 @@ abbrev pub lastOutcome : Outcome → List Outcome → Outcome
 lastOutcome o [] = o
 lastOutcome o (p ∷ os) = lastOutcome p os
 
--- The history of the calls from a fresh box of the sheet: its outcomes end in the answer ("none" where there was no call), "held" has the held list's own
--- length, and the box is one of the sheet that stands for the history.
+-- Demand 3 of the calls from a fresh box of the sheet, entire: answers whose outcomes are the history's, and the box with its lamp. The answer handed back is the last one ("none" where there was no call),
+-- and "held" has the held list's own length.
 pub record Followed (s : Bytes) (ks : List Call) (r : Replayed) : Type 0 where
-  pub outcomes : List Outcome
-  pub history : History
-  pub recorded : HistoryOf (automaton s) (fresh (automaton s)) ks outcomes history
-  pub answer-is : outcomeOf (r .answer) ≡ lastOutcome nothing outcomes
-  pub held-count : (n : ℕ) → r .answer ≡ Held n → n ≡ length (history .pending)
-  pub stands : StandsFor (automaton s) (viewOf (r .monitor)) history
-  pub sheet-is : bytesOf (r .monitor) ≡ s
-  pub valid : Valid (r .monitor)
+  pub answers : List Answer
+  pub demand-3 : CodeDemand3 s ks answers (r .monitor)
+  pub answer-is : outcomeOf (r .answer) ≡ lastOutcome nothing (outcomesOf answers)
+  pub held-count : (n : ℕ) → r .answer ≡ Held n → n ≡ length (demand-3 .history .pending)
 
 -- What replaying promises: the check's answer; where that accepts the sheet, the calls were followed; where it does not, there is no box, and no call was made.
 pub record ReplayRight (s calls : Bytes) (r : Replayed) : Type 0 where

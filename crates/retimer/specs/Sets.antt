@@ -168,19 +168,28 @@ pub record PlayedAt (s : Bytes) (c l : ℕ) (src next new : List ℕ) (v : ℕ) 
 
 -- ---- From sets
 
--- After some wait the action leads from a member at location l to row i of location t.
-pub record Moves (s : Bytes) (c : ℕ) (set : List ℕ) (l t x i : ℕ) : Type 0 where
+-- After some wait a member at location l is as Q says.
+pub record Becomes (s : Bytes) (set : List ℕ) (l : ℕ) (Q : Configuration → Type 0) : Type 0 where
   pub from-x : ℕ
   pub from-i : ℕ
   pub ticks : ℕ
   pub inside : from-i < height s
   pub member : Marked (height s) set l from-x from-i
-  pub steps : step (automaton s) c (advance ticks (at (height s) l from-x from-i)) ≡ some (at (height s) t x i)
+  pub good : Q (advance ticks (at (height s) l from-x from-i))
 
--- The next set has gained what the action leads to from the members at location l. Of the set, the rows behind those of l stay as they were.
+-- After some wait the action leads from a member at location l to row i of location t.
+abbrev pub Moves : Bytes → ℕ → List ℕ → ℕ → ℕ → ℕ → ℕ → Type 0
+Moves s c set l t x i = Becomes s set l (λ (p : Configuration). step (automaton s) c p ≡ some (at (height s) t x i))
+
+-- After some wait a member at location l is at row i.
+abbrev pub LaterAt : Bytes → List ℕ → ℕ → ℕ → ℕ → Type 0
+LaterAt s set l x i = Becomes s set l (λ (p : Configuration). p ≡ at (height s) l x i)
+
+-- The next set has gained what the action leads to from the members at location l. Of the set, the rows of l are waited and the others stay as they were.
 pub record PlayedFrom (s : Bytes) (c l : ℕ) (set set' next new : List ℕ) (v : ℕ) : Type 0 where
   pub source : Whole s set'
-  pub others : (j : ℕ) → l * height s + height s ≤ j → getD set' j 0 ≡ getD set j 0
+  pub waited : (x i : ℕ) → i < height s → Marked (height s) set' l x i ↔ LaterAt s set l x i
+  pub others : (m i : ℕ) → i < height s → (m ≡ l → ⊥) → getD set' (m * height s + i) 0 ≡ getD set (m * height s + i) 0
   pub whole : Whole s new
   pub right : (t x i : ℕ) → i < height s → Marked (height s) new t x i ↔ (Marked (height s) next t x i ⊎ Moves s c set l t x i)
   pub some : (t : ℕ) → In t v ↔ ((x : ℕ) × (i : ℕ) × (i < height s) × Moves s c set l t x i)
@@ -214,6 +223,11 @@ pub record Moved (s : Bytes) (c : ℕ) (set : List ℕ) (q : Configuration) : Ty
 pub record Played (s : Bytes) (c : ℕ) (set new : List ℕ) (places : ℕ) : Type 0 where
   pub reached : Reached s new places
   pub right : (q : Configuration) → Contains s new q ↔ Moved s c set q
+
+-- The set has just what the members of another become after any wait, at the same places.
+pub record Elapsed (s : Bytes) (set new : List ℕ) (places : ℕ) : Type 0 where
+  pub reached : Reached s new places
+  pub right : (q : Configuration) → Contains s new q ↔ ((p : Configuration) × (n : ℕ) × Contains s set p × (q ≡ advance n p))
 
 -- A set without members.
 pub record Empty (s : Bytes) (set : List ℕ) : Type 0 where

@@ -6,10 +6,10 @@ use lib.ListN.{length, take}
 use Rattle.enforcement.specs.Limits.{maxSize, maxCount, maxScheduled, maxDate}
 use Rattle.enforcement.specs.Automaton.{Bytes, Automaton, automaton}
 use Rattle.enforcement.specs.Loading.{Loads}
-use Rattle.enforcement.specs.History.{Request, Call}
+use Rattle.enforcement.specs.History.{Request, Call, Outcome, History, fresh, HistoryOf}
 use Rattle.enforcement.specs.History as history
 use Rattle.enforcement.specs.Monitor as model
-use Rattle.enforcement.specs.Demands.{calls}
+use Rattle.enforcement.specs.Demands.{StandsFor}
 use Rattle.retimer.specs.declared.limits.Slot.{Slot}
 use Rattle.retimer.specs.declared.limits.State.{State}
 use Rattle.retimer.specs.declared.limits.Monitor.{Monitor}
@@ -35,9 +35,9 @@ pendingOf q = map requestOf (take (q .held) (q .pending))
 abbrev pub scheduleOf : State → List history.Slot
 scheduleOf q = map slotOf (take (q .planned) (q .schedule))
 
--- The box: date, held list, schedule, and the configuration and date that the last event ever scheduled reached.
+-- The box: date, held list, schedule, the configuration and date that the last event ever scheduled reached, and the lamp.
 unfoldable pub view : State → model.Monitor
-view q = record { date = q .date; pending = pendingOf q; schedule = scheduleOf q; configuration = located (q .location) (q .readings); last = q .last }
+view q = record { date = q .date; pending = pendingOf q; schedule = scheduleOf q; configuration = located (q .location) (q .readings); last = q .last; lit = q .lit }
 
 abbrev pub viewOf : Monitor → model.Monitor
 viewOf b = view (b .state)
@@ -60,14 +60,20 @@ pub record Sound (b : Monitor) : Type 0 where
   pub size-fits : b .size ≤ maxSize
   pub state : StateSound (bytesOf b) (b .live) (b .state)
 
--- A state of a sheet: its parts fit, and its view is what some list of calls gives from a fresh one.
+-- The calls from a fresh box that gave the box, their history, and that the box stands for it, its lamp by document 01's rule among the rest.
+pub record Recorded (a : Automaton) (v : model.Monitor) : Type 0 where
+  pub past : List Call
+  pub outcomes : List Outcome
+  pub history : History
+  pub recorded : HistoryOf a (fresh a) past outcomes history
+  pub stands : StandsFor a v history
+
+-- A state of a sheet: its parts fit, and it stands for the history of some list of calls from a fresh one.
 pub record StateValid (s : Bytes) (live : List ℕ) (q : State) : Type 0 where
   pub sound : StateSound s live q
-  pub past : List Call
-  pub reached : view q ≡ calls (automaton s) past .monitor
+  pub recorded : Recorded (automaton s) (view q)
 
--- A box: its parts fit, and its view is what some list of calls gives from a fresh one. Every load and call promises this of the box that it gives, and a call asks for nothing else.
+-- A box: its parts fit, and it stands for the history of some list of calls from a fresh one. Every load and call promises this of the box that it gives, and a call asks for nothing else.
 pub record Valid (b : Monitor) : Type 0 where
   pub sound : Sound b
-  pub past : List Call
-  pub reached : viewOf b ≡ calls (automatonOf b) past .monitor
+  pub recorded : Recorded (automatonOf b) (viewOf b)

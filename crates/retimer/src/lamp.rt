@@ -1,4 +1,4 @@
-// The lamp: whether a list of actions, or any next action, can still come to acceptance.
+// The lamp by the rule: lit where nothing can bring acceptance after the pending actions or, where none is pending, after any next action.
 use crate::outlook;
 use crate::reach;
 ghost use mathlib.Core.Path.{_≡_};

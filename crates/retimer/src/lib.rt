@@ -45,7 +45,7 @@ pub mod outlook;
 // What a list of actions comes to.
 pub mod reach;
 
-// Whether a list of actions, or any next action, can still come to acceptance.
+// The lamp by the rule.
 pub mod lamp;
 
 // Lists that are kept at the front of arrays.

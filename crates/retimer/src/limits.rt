@@ -6,7 +6,7 @@ pub struct Slot {
     pub date: u32,
 }
 
-// What calls change of a box: its date, the pending actions, the schedule, and the location, readings and date reached by the last event ever scheduled.
+// What calls change of a box: its date, the pending actions, the schedule, the location, readings and date reached by the last event ever scheduled, and whether the lamp is lit.
 pub struct State {
     pub date: u32,
     pub pending: [u8; Monitor::COUNT],
@@ -16,6 +16,7 @@ pub struct State {
     pub location: u8,
     pub readings: [u8; 2],
     pub last: u32,
+    pub lit: bool,
 }
 
 // An enforcement monitor (the box): its automaton's bytes, the table of live configurations, and its state.

@@ -4,12 +4,15 @@ use crate::limits::Slot;
 use crate::limits::State;
 use crate::lists;
 use crate::liveness;
+use crate::outlook;
 use crate::sheet;
 use crate::sheet::Checked;
 use crate::state::Answer;
 ghost use mathlib.Core.Path.{_≡_};
+ghost use mathlib.Core.Bool.{cond};
 ghost use Rattle.enforcement.specs.Loading.{Loads};
 ghost use Rattle.enforcement.specs.History.{offer, collect, lamp};
+ghost use Rattle.retimer.specs.declared.state.Answer.the-variants.{Lit, Dark};
 ghost use Rattle.retimer.specs.View.{Valid};
 ghost use Rattle.retimer.specs.Calls.{withState, CallRight, FreshRight, noMonitor, LoadRight};
 
@@ -34,6 +37,8 @@ impl Monitor {
         let counts = live.counts;
         let bytes = lists::copied(s);
         let second = if s[1] == 1 { Monitor::TOP } else { 0 };
+        let location = s[3];
+        let lit = outlook::none_next(s, &counts, location, [0, second]);
         Monitor {
             bytes,
             size: s.len(),
@@ -44,14 +49,15 @@ impl Monitor {
                 held: 0,
                 schedule: [Slot { action: 0, date: 0 }; Monitor::SCHEDULED],
                 planned: 0,
-                location: s[3],
+                location,
                 readings: [0, second],
                 last: 0,
+                lit,
             },
         }
     }
 
-    // What stands in the box's place after a refused load: no sheet, and zeros throughout.
+    // What stands in the box's place after a refused load: no sheet, zeros throughout, and a dark lamp.
     fn nothing() -> Monitor
         ensures { λ r. ⌜ r ≡ noMonitor ⌝ }
     {
@@ -68,6 +74,7 @@ impl Monitor {
                 location: 0,
                 readings: [0, 0],
                 last: 0,
+                lit: false,
             },
         }
     }
@@ -133,16 +140,11 @@ impl Monitor {
         }
     }
 
-    // Whether no run of further actions could get one more scheduled.
+    // The lamp as it is stored. Of a box it says whether no run of further actions could get one more scheduled.
     pub fn lamp(self) -> Answered
-        requires { ⌜ Valid self ⌝ }
-        ensures { λ r. ⌜ (CallRight self lamp r) × (r .monitor ≡ self) ⌝ }
+        ensures { λ r. ⌜ (r ≡ record { monitor = self; answer = cond (self .state .lit) Lit Dark }) × (Valid self → CallRight self lamp r) ⌝ }
     {
-        let size = self.size;
-        let state = self.state;
-        let s: &[u8] = &self.bytes;
-        let live: &[u8] = &self.live;
-        if state.is_lit(&s[..size], live) {
+        if self.state.lit {
             return Answered {
                 monitor: self,
                 answer: Answer::Lit,

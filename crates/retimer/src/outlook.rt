@@ -12,17 +12,17 @@ ghost use lib.ListN.{length};
 ghost use Rattle.enforcement.specs.Automaton.{byte, accepting, actions, transitionAt};
 ghost use Rattle.enforcement.specs.Loading.{Loads, Fits};
 ghost use Rattle.enforcement.specs.Model.{prospect};
-ghost use Rattle.enforcement.specs.Monitor.{noneNext};
+ghost use Rattle.enforcement.specs.Monitor.{noneNext, isLit};
 ghost use Rattle.retimer.specs.Readings.{Readings, located};
 ghost use Rattle.retimer.specs.Optimum.{modelOf, LampAsked};
 ghost use Rattle.retimer.specs.Outlook.{outlookOf};
 ghost use Rattle.retimer.specs.Next.{Opens, LeadsLive, LeadsAsked};
 
-// What a list of actions comes to.
+// What a list of actions comes to. Where it is dead: whether the lamp is lit with the actions without the last.
 pub enum Outlook {
     Correct,
     Extensible,
-    Dead,
+    Dead { lit: bool },
 }
 
 // Whether the transition at p is for the action, and enabled after some wait.
@@ -63,10 +63,10 @@ fn target_accepts(s: &[u8], p: usize) -> bool
     liveness::accepts(s, bytes::wide(s[p + 1]))
 }
 
-// What a single action comes to.
+// What a single action comes to and, where it is dead, the lamp without it.
 pub fn single<'a>(s: &'a [u8], live: &'a [u8], c: u8, l: u8, r: [u8; 2]) -> Outlook
     requires { ⌜ LampAsked (now s) (now live) l r ⌝ }
-    ensures { λ o. ⌜ o ≡ outlookOf (prospect (modelOf (now (s .entry))) (c ∷ []) (located l r)) ⌝ }
+    ensures { λ o. ⌜ o ≡ outlookOf (prospect (modelOf (now (s .entry))) (c ∷ []) (located l r)) (isLit (modelOf (now (s .entry))) (located l r) []) ⌝ }
 {
     let pair = 6 + 4 * bytes::wide(l);
     let mut p = bytes::word_at(s, pair);
@@ -87,7 +87,9 @@ pub fn single<'a>(s: &'a [u8], live: &'a [u8], c: u8, l: u8, r: [u8; 2]) -> Outl
     if lives {
         return Outlook::Extensible;
     }
-    Outlook::Dead
+    Outlook::Dead {
+        lit: none_next(s, live, l, r),
+    }
 }
 
 // Whether any next action can lead to a live configuration.

@@ -5,20 +5,21 @@ use crate::limits::Monitor;
 use crate::limits::State;
 use crate::lists;
 use crate::optimum;
+use crate::outlook;
 use crate::outlook::Outlook;
 use crate::reach;
 use crate::reason::Reason;
 ghost use mathlib.Core.Path.{_≡_};
-ghost use mathlib.Core.Bool.{cond};
-ghost use Prim.Native.Nat.{_≤_, max};
+ghost use mathlib.Core.Bool.{false};
+ghost use Prim.Native.Nat.{_+_, _-_, _≤_, max};
 ghost use lib.Dec.{leb};
 ghost use lib.ListN.{length};
-ghost use Rattle.enforcement.specs.Limits.{maxCount, maxDate};
-ghost use Rattle.enforcement.specs.History.{offer, collect, lamp};
-ghost use Rattle.enforcement.specs.Monitor.{kept, oldest};
+ghost use Rattle.enforcement.specs.Limits.{maxCount, maxScheduled, maxDate};
+ghost use Rattle.enforcement.specs.History.{actionsOf, offer, collect};
+ghost use Rattle.enforcement.specs.Monitor.{joins, kept, oldest};
+ghost use Rattle.retimer.specs.Optimum.{modelOf};
 ghost use Rattle.retimer.specs.View.{view, StateSound, StateValid};
-ghost use Rattle.retimer.specs.Calls.{refusal, movedTo, Done, lastAction, decidedOf, CorrectAsked, PlaceAsked, placedOf, MoveRight};
-ghost use Rattle.retimer.specs.declared.state.Answer.the-variants.{Lit, Dark};
+ghost use Rattle.retimer.specs.Calls.{refusal, movedTo, lampWith, lampAt, Done, lastAction, decidedOf, CorrectAsked, PlaceAsked, placedOf, MoveRight};
 
 // What a call answers.
 pub enum Answer {
@@ -59,7 +60,7 @@ impl State {
         }
     }
 
-    // An action at a date.
+    // An action at a date. Where the lamp is lit, it stays lit, and every offer is dropped.
     pub fn offer<'a>(self, s: &'a [u8], live: &'a [u8], c: u8, t: u32) -> Moved
         requires { ⌜ StateValid (now s) (now live) self ⌝ }
         ensures { λ r. ⌜ MoveRight (now (s .entry)) (now (live .entry)) self (offer c t) r ⌝ }
@@ -72,6 +73,12 @@ impl State {
         }
         if t < self.date {
             return self.refuse(Reason::S1);
+        }
+        if self.lit {
+            return Moved {
+                state: self.at_date(t, true),
+                answer: Answer::Dropped,
+            };
         }
         self.decide(s, live, c, t)
     }
@@ -93,25 +100,26 @@ impl State {
         match o {
             Outlook::Correct => self.correct(s, live, t, cs, start, here),
             Outlook::Extensible => self.hold(s, live, c, t),
-            Outlook::Dead => Moved {
-                state: self.at_date(t),
+            Outlook::Dead { lit } => Moved {
+                state: self.at_date(t, lit),
                 answer: Answer::Dropped,
             },
         }
     }
 
-    // Only the date moves.
-    fn at_date(mut self, date: u32) -> State
-        ensures { λ r. ⌜ r ≡ movedTo self date ⌝ }
+    // Only the date and the lamp move.
+    fn at_date(mut self, date: u32, lit: bool) -> State
+        ensures { λ r. ⌜ r ≡ movedTo self date lit ⌝ }
     {
         self.date = date;
+        self.lit = lit;
         self
     }
 
-    // Case 2: one more action is pending, where there is room.
+    // Case 2: one more action is pending, where there is room. What is held can still come to acceptance, so the lamp is dark.
     fn hold<'a>(mut self, s: &'a [u8], live: &'a [u8], c: u8, t: u32) -> Moved
-        requires { ⌜ (StateSound (now s) (now live) self) × (t ≤ maxDate) ⌝ }
-        ensures { λ r. ⌜ Done (now (s .entry)) (now (live .entry)) self (kept (view self) c t (leb maxCount (length (view self .pending)))) r ⌝ }
+        requires { ⌜ ((StateSound (now s) (now live) self) × (t ≤ maxDate)) × (lampWith (now s) self t (actionsOf (joins (view self) c)) ≡ false) ⌝ }
+        ensures { λ r. ⌜ Done (now (s .entry)) (now (live .entry)) self (kept (modelOf (now (s .entry))) (view self) c t (leb maxCount (length (view self .pending)))) r ⌝ }
     {
         let n = self.held;
         if Monitor::COUNT <= n {
@@ -120,6 +128,7 @@ impl State {
         self.pending[n] = c;
         self.held = n + 1;
         self.date = t;
+        self.lit = false;
         Moved {
             state: self,
             answer: Answer::Held((n + 1) as u8),
@@ -180,7 +189,7 @@ impl State {
 
     // The pending actions and one more get their dates, where they end in time and there is room.
     fn place<'a>(
-        mut self,
+        self,
         s: &'a [u8],
         live: &'a [u8],
         t: u32,
@@ -190,7 +199,7 @@ impl State {
         location: u8,
         readings: [u8; 2],
     ) -> Moved
-        requires { ⌜ PlaceAsked (now s) (now live) self t cs ds location readings ⌝ }
+        requires { ⌜ PlaceAsked (now s) (now live) self t cs ds last location readings ⌝ }
         ensures { λ r. ⌜ Done (now (s .entry)) (now (live .entry)) self (placedOf (now (s .entry)) self t cs ds last) r ⌝ }
     {
         let n = self.planned;
@@ -201,8 +210,29 @@ impl State {
         if Monitor::SCHEDULED - n < k {
             return self.refuse(Reason::S3);
         }
+        self.schedule_all(s, live, t, cs, ds, last, location, readings)
+    }
+
+    // They are scheduled. None is pending then: the lamp looks at single next actions from where they end.
+    fn schedule_all<'a>(
+        mut self,
+        s: &'a [u8],
+        live: &'a [u8],
+        t: u32,
+        cs: [u8; Monitor::BATCH],
+        ds: [u32; Monitor::BATCH],
+        last: u32,
+        location: u8,
+        readings: [u8; 2],
+    ) -> Moved
+        requires { ⌜ (PlaceAsked (now s) (now live) self t cs ds last location readings) × ((last ≤ maxDate) × (self .held + 1 ≤ maxScheduled - self .planned)) ⌝ }
+        ensures { λ r. ⌜ Done (now (s .entry)) (now (live .entry)) self (placedOf (now (s .entry)) self t cs ds last) r ⌝ }
+    {
+        let n = self.planned;
+        let k = self.held + 1;
         let slots = self.schedule;
         let more = lists::with_slots(slots, n, cs, ds, k);
+        let lit = outlook::none_next(s, live, location, readings);
         self.schedule = more;
         self.planned = n + k;
         self.held = 0;
@@ -210,6 +240,7 @@ impl State {
         self.location = location;
         self.readings = readings;
         self.last = last;
+        self.lit = lit;
         Moved {
             state: self,
             answer: Answer::Scheduled {
@@ -233,15 +264,40 @@ impl State {
         self.play(s, live, t)
     }
 
+    // Whether the lamp is lit at a later date. A lit lamp stays lit, and a dark one stays dark where the first date at which an action can be played is the same.
+    fn lit_at<'a>(self, s: &'a [u8], live: &'a [u8], t: u32) -> bool
+        requires { ⌜ (StateValid (now s) (now live) self) × ((self .date ≤ t) × (t ≤ maxDate)) ⌝ }
+        ensures { λ b. ⌜ b ≡ lampAt (now (s .entry)) self t ⌝ }
+    {
+        if self.lit {
+            return true;
+        }
+        let last = self.last;
+        let date = self.date;
+        let start = earliest(last, t);
+        if start == earliest(last, date) {
+            return false;
+        }
+        let held = self.held;
+        let location = self.location;
+        let readings = self.readings;
+        let here = clocks::wait_many(readings, start - last);
+        let pending = self.pending;
+        let cs: &[u8] = &pending;
+        lamp::is_lit(s, live, &cs[..held], location, here)
+    }
+
     // A collection that passed the first checks.
     fn play<'a>(mut self, s: &'a [u8], live: &'a [u8], t: u32) -> Moved
-        requires { ⌜ (StateSound (now s) (now live) self) × (t ≤ maxDate) ⌝ }
-        ensures { λ r. ⌜ Done (now (s .entry)) (now (live .entry)) self (oldest (view self) t (view self .schedule)) r ⌝ }
+        requires { ⌜ (StateValid (now s) (now live) self) × ((self .date ≤ t) × (t ≤ maxDate)) ⌝ }
+        ensures { λ r. ⌜ Done (now (s .entry)) (now (live .entry)) self (oldest (modelOf (now (s .entry))) (view self) t (view self .schedule)) r ⌝ }
     {
+        let lit = self.lit_at(s, live, t);
         let n = self.planned;
         let slots = self.schedule;
         let first = slots[0];
         self.date = t;
+        self.lit = lit;
         if n == 0 {
             return Moved {
                 state: self,
@@ -264,22 +320,5 @@ impl State {
                 date: first.date,
             },
         }
-    }
-
-    // Whether no run of further actions could get one more scheduled.
-    pub fn is_lit<'a>(self, s: &'a [u8], live: &'a [u8]) -> bool
-        requires { ⌜ StateValid (now s) (now live) self ⌝ }
-        ensures { λ b. ⌜ MoveRight (now (s .entry)) (now (live .entry)) self lamp (record { state = self; answer = cond b Lit Dark }) ⌝ }
-    {
-        let held = self.held;
-        let last = self.last;
-        let date = self.date;
-        let location = self.location;
-        let readings = self.readings;
-        let start = earliest(last, date);
-        let here = clocks::wait_many(readings, start - last);
-        let pending = self.pending;
-        let cs: &[u8] = &pending;
-        lamp::is_lit(s, live, &cs[..held], location, here)
     }
 }

@@ -184,7 +184,7 @@ fn spread_late(location: u8) -> Vec<[u8; RULE]> {
 }
 
 /// Fills the pending list from the last scheduled date on; gives the date.
-fn fill(script: &mut Script) -> u32 {
+pub fn fill(script: &mut Script) -> u32 {
     let date = script.monitor().reached().date;
     for _ in 0..MAX_PENDING {
         script.offer(HELD, date);

@@ -11,6 +11,7 @@ mod mixed;
 mod report;
 mod script;
 mod short;
+mod stored;
 
 pub use instructions::Counter;
 pub use measure::{typical, Difference, Figures, Folder, Measured, Programs, Stop};
@@ -138,6 +139,28 @@ pub const WORST: &[Kind] = &[
     kind("worst waits found", [1, ALL, 1, 6], planned_waits),
 ];
 
+/// The kinds that show what the lamp adds to a call.
+pub const STORED: &[Kind] = &[
+    kind("refused, I-7", [4_000, ALL, 100, 30], stored::refused),
+    kind("lit, offers", [4_000, ALL, 100, 30], stored::offered_lit),
+    kind(
+        "lit, collections",
+        [4_000, ALL, 100, 30],
+        stored::collected_lit,
+    ),
+    kind(
+        "collections, same first date",
+        [4_000, ALL, 100, 30],
+        stored::collected,
+    ),
+    kind(
+        "collections, each a tick later",
+        [200, ALL, 20, 6],
+        stored::collected_later,
+    ),
+    kind("held, 1 to 16", [16, ALL, 16, 30], stored::held),
+];
+
 /// The kinds whose times are per load.
 pub const LOADING: &[Kind] = &[
     kind("largest sheets", [5, ALL, 5, 600], loading::largest),
@@ -157,7 +180,13 @@ pub const LOADING: &[Kind] = &[
 /// Writes the inputs of all kinds to a folder, with the calls whose instructions
 /// are counted.
 pub fn write_inputs(folder: &Path) -> io::Result<()> {
-    for kind in KINDS.iter().chain(SHORT).chain(WORST).chain(LOADING) {
+    for kind in KINDS
+        .iter()
+        .chain(SHORT)
+        .chain(WORST)
+        .chain(STORED)
+        .chain(LOADING)
+    {
         for (number, input) in kind.inputs(kind.short).iter().enumerate() {
             let name = format!("{}, {number}", kind.name);
             fs::write(folder.join(name), &input.whole)?;

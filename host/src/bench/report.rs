@@ -2,7 +2,7 @@
 
 use super::instructions::Counter;
 use super::measure::{Figures, Folder, Programs, Stop};
-use super::{Input, Kind, KINDS, LOADING, SHORT, WORST};
+use super::{Input, Kind, KINDS, LOADING, SHORT, STORED, WORST};
 use std::fmt::Display;
 use std::io::Write;
 use std::path::Path;
@@ -57,6 +57,13 @@ const OFFERS: Group = Group {
     noise: 0.0,
     kinds: WORST,
 };
+const LAMPS: Group = Group {
+    title: "lamp",
+    per: "call",
+    unit: MICROSECONDS,
+    noise: 0.0,
+    kinds: STORED,
+};
 const LOADS: Group = Group {
     title: "loading",
     per: "load",
@@ -92,8 +99,9 @@ struct Bench<'a> {
     out: &'a mut dyn Write,
 }
 
-/// Measures all kinds and prints the tables. The instructions of loads are
-/// always counted if they can be, those of calls if asked for.
+/// Measures all kinds and prints the tables. The instructions of loads, and of
+/// the calls that show what the lamp adds, are always counted if they can be,
+/// those of other calls if asked for.
 pub fn report(programs: &Programs, counting: bool, out: &mut dyn Write) -> Result<(), Stop> {
     let mut bench = Bench {
         programs,
@@ -107,8 +115,10 @@ pub fn report(programs: &Programs, counting: bool, out: &mut dyn Write) -> Resul
             bench.instructions(&group)?;
         }
     }
-    bench.times(&LOADS)?;
-    bench.instructions(&LOADS)?;
+    for group in [LAMPS, LOADS] {
+        bench.times(&group)?;
+        bench.instructions(&group)?;
+    }
     bench.start_up()
 }
 

@@ -96,6 +96,20 @@ impl Script {
         }
     }
 
+    /// An input that counts only so many collections, each a tick later than the
+    /// one before.
+    pub fn later(self, date: u32, count: usize) -> Input {
+        let mut whole = self.input.clone();
+        for tick in 1..=count as u32 {
+            push_call(&mut whole, COLLECTION, date + tick);
+        }
+        Input {
+            base: self.input,
+            whole,
+            count,
+        }
+    }
+
     /// An input of so many calls or a few more: all calls of the script, again
     /// and again, each time so many ticks later.
     pub fn cycling(self, period: u32, least: usize) -> Input {

@@ -3,7 +3,7 @@
 use super::cost::correction;
 use super::limits::{BATCH, CAP};
 use super::liveness::Deadlines;
-use super::reach::{is_lit, outlook, Outlook};
+use super::reach::{any_next, is_lit, outlook, Outlook};
 use super::sheet::{waited, Configuration, Sheet};
 use crate::desk::Calls;
 use crate::limits::{LAST_DATE, MAX_PENDING, MAX_SCHEDULED};
@@ -25,6 +25,7 @@ pub struct Monitor {
     /// Where the last action ever scheduled led, and its date.
     reached: Configuration,
     last: u32,
+    lit: bool,
 }
 
 impl Monitor {
@@ -51,11 +52,26 @@ impl Monitor {
         }
     }
 
+    /// Lets the date pass. The lamp is looked at again where it is dark and the
+    /// first possible date moves.
+    fn pass(&mut self, date: u32) {
+        let (start, from) = self.start(date);
+        if !self.lit && start != self.date.max(self.last) {
+            let pending = &self.pending[..self.held];
+            self.lit = is_lit(&self.sheet, &self.deadlines, pending, from);
+        }
+        self.date = date;
+    }
+
     fn try_offer(&mut self, action: u8, date: u32) -> Result<Answer, Refusal> {
         if action >= self.sheet.actions {
             return Err(Refusal::I7);
         }
         self.check_date(date)?;
+        if self.lit {
+            self.date = date;
+            return Ok(Answer::Dropped);
+        }
         let mut list = [0; BATCH];
         list[..self.held].copy_from_slice(&self.pending[..self.held]);
         list[self.held] = action;
@@ -64,7 +80,10 @@ impl Monitor {
         let answer = match outlook(&self.sheet, &self.deadlines, list, from) {
             Outlook::Correct => self.schedule_all(list, start, from)?,
             Outlook::Extensible => self.hold(action)?,
-            Outlook::Dead => Answer::Dropped,
+            Outlook::Dead { lit } => {
+                self.lit = lit;
+                Answer::Dropped
+            }
         };
         self.date = date;
         Ok(answer)
@@ -101,6 +120,7 @@ impl Monitor {
         self.held = 0;
         self.reached = found.reached;
         self.last = found.last;
+        self.lit = !any_next(&self.sheet, &self.deadlines, self.reached);
         Ok(Answer::Scheduled {
             count: list.len(),
             last: found.last,
@@ -122,17 +142,20 @@ impl Calls for Monitor {
     fn fresh(automaton: Automaton) -> Self {
         let sheet = Sheet::new(&automaton);
         let second = if sheet.clocks == 1 { CAP } else { 0 };
+        let deadlines = Deadlines::new(&sheet);
+        let reached = Configuration {
+            location: sheet.initial,
+            readings: [0, second],
+        };
         Monitor {
-            deadlines: Deadlines::new(&sheet),
+            lit: !any_next(&sheet, &deadlines, reached),
+            deadlines,
             date: 0,
             pending: [0; MAX_PENDING],
             held: 0,
             schedule: [TimedAction { action: 0, date: 0 }; MAX_SCHEDULED],
             planned: 0,
-            reached: Configuration {
-                location: sheet.initial,
-                readings: [0, second],
-            },
+            reached,
             last: 0,
             sheet,
         }
@@ -147,7 +170,7 @@ impl Calls for Monitor {
         if let Err(refusal) = self.check_date(date) {
             return Answer::Refused(refusal);
         }
-        self.date = date;
+        self.pass(date);
         let oldest = self.schedule[0];
         if self.planned == 0 || date < oldest.date {
             return Answer::Nothing;
@@ -158,8 +181,6 @@ impl Calls for Monitor {
     }
 
     fn lamp(&self) -> bool {
-        let (_, from) = self.start(self.date);
-        let pending = &self.pending[..self.held];
-        is_lit(&self.sheet, &self.deadlines, pending, from)
+        self.lit
     }
 }

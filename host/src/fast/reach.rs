@@ -12,7 +12,10 @@ use std::mem::swap;
 pub enum Outlook {
     Correct,
     Extensible,
-    Dead,
+    /// With whether the lamp is lit where the last action is left out.
+    Dead {
+        lit: bool,
+    },
 }
 
 /// A set of configurations. The rows of locations that are not among the
@@ -168,7 +171,7 @@ fn rule_live(deadlines: &Deadlines, rule: &Rule, readings: Readings) -> bool {
 }
 
 /// Whether some next action leads to a live configuration.
-fn any_next(sheet: &Sheet, deadlines: &Deadlines, from: Configuration) -> bool {
+pub fn any_next(sheet: &Sheet, deadlines: &Deadlines, from: Configuration) -> bool {
     let mut rules = sheet.rules(from.location).iter();
     rules.any(|rule| rule_live(deadlines, rule, from.readings))
 }
@@ -176,39 +179,44 @@ fn any_next(sheet: &Sheet, deadlines: &Deadlines, from: Configuration) -> bool {
 /// The outlook of one action. No set is needed.
 fn single(sheet: &Sheet, deadlines: &Deadlines, action: u8, from: Configuration) -> Outlook {
     let readings = from.readings;
-    let mut outlook = Outlook::Dead;
+    let mut extensible = false;
     for rule in sheet.rules_of(from.location, action) {
         if rule.first_wait(readings) < rule.end_wait(readings) {
             if in_set(sheet.accepting, rule.target) {
                 return Outlook::Correct;
             }
-            if outlook == Outlook::Dead && rule_live(deadlines, rule, readings) {
-                outlook = Outlook::Extensible;
-            }
+            extensible = extensible || rule_live(deadlines, rule, readings);
         }
     }
-    outlook
+    if extensible {
+        Outlook::Extensible
+    } else {
+        let lit = !any_next(sheet, deadlines, from);
+        Outlook::Dead { lit }
+    }
 }
 
-/// The outlook of some actions, by sets of so many rows.
+/// The outlook of two actions or more, by sets of so many rows.
 fn outlook_of<const HEIGHT: usize>(
     sheet: &Sheet,
     deadlines: &Deadlines,
     actions: &[u8],
     from: Configuration,
 ) -> Outlook {
-    let (mut set, mut next) = (Set::<HEIGHT>::single(from), Set::EMPTY);
-    let (mut set, mut next) = (&mut set, &mut next);
+    let (mut set, mut before) = (Set::<HEIGHT>::single(from), Set::EMPTY);
+    let (mut set, mut before) = (&mut set, &mut before);
     for action in actions {
-        set.play(sheet, *action, next);
-        swap(&mut set, &mut next);
+        set.play(sheet, *action, before);
+        swap(&mut set, &mut before);
     }
     if set.places & sheet.accepting != 0 {
         Outlook::Correct
     } else if set.any_live(sheet, deadlines) {
         Outlook::Extensible
     } else {
-        Outlook::Dead
+        // The waits that the last action added make nothing live that was not.
+        let lit = !before.any_live(sheet, deadlines);
+        Outlook::Dead { lit }
     }
 }
 
@@ -231,6 +239,9 @@ pub fn is_lit(sheet: &Sheet, deadlines: &Deadlines, pending: &[u8], from: Config
     if pending.is_empty() {
         !any_next(sheet, deadlines, from)
     } else {
-        outlook(sheet, deadlines, pending, from) == Outlook::Dead
+        matches!(
+            outlook(sheet, deadlines, pending, from),
+            Outlook::Dead { .. }
+        )
     }
 }

@@ -79,6 +79,14 @@ module _ (xs : List ℕ) (a k : ℕ) (inside : a + k ≤ length xs) where
     pub put-part : take k (drop a (putMid a k xs ys)) ≡ ys
     put-part = ap (take k) (drop-at (take a xs) (ys ++ drop k (drop a xs)) a front) ∙ take-at ys (drop k (drop a xs)) k same
 
+-- The rows of another location stay.
+pub put-other : (xs : List ℕ) (l h k : ℕ) → l * h + k ≤ length xs → k ≡ h → (ys : List ℕ) → length ys ≡ k → (m i : ℕ) → i < h → (m ≡ l → ⊥) → getD (putMid (l * h) k xs ys) (m * h + i) 0 ≡ getD xs (m * h + i) 0
+put-other xs l h k inside e ys same m i less other = go (ltb m l) refl
+  where
+    go : (c : Bool) → ltb m l ≡ c → getD (putMid (l * h) k xs ys) (m * h + i) 0 ≡ getD xs (m * h + i) 0
+    go true y = put-before xs (l * h) k inside ys same (m * h + i) (omega (arith, rows-end h (ltb-true m l y)))
+    go false y = put-after xs (l * h) k inside ys same (m * h + i) (omega (arith, rows-end h {t = l} {u = m} (omega (arith, ltb-false m l y))))
+
 -- ---- A list that is emptied
 
 pub cleared-none : (set : List ℕ) → Cleared set set 0

@@ -7,11 +7,11 @@ use mathlib.Core.Logic.{_⊎_, inl, inr, ⊎-elim, _↔_}
 use Prim.Native.Nat.{ℕ, _+_, _*_, _/_, _%_, _^_, _≤_, _<_, _-_}
 use native.Mathlib.Omega.{arith}
 use native.Mathlib.Nat.{one-mul, mul-le-mul-right}
-use lib.Dec.{eqb, ltb}
+use lib.Dec.{eqb}
 use lib.ListN.{length, getD, take, drop}
 use lib.Pow.{shl-exact}
 use lib.Bits.{bitOr}
-use borrow.Author.Tests.{eqb-true, eqb-false, ltb-true, ltb-false}
+use borrow.Author.Tests.{eqb-true, eqb-false}
 use borrow.Rule.Slice.PartMut.{putMid}
 use Rattle.enforcement.specs.Limits.{maxCount}
 use Rattle.enforcement.specs.Automaton.{Bytes, Transition, byte, word, transitionAt, transitionsFrom, transitions, clocks, locations}
@@ -26,7 +26,7 @@ use Rattle.retimer.specs.Sets.{height, Led, Fires, Fired, Marked, Whole,
 use Rattle.retimer.specs.Steps.{One}
 use Rattle.enforcement.proofs.Bits.{none-in, in-or, power-in}
 use Rattle.retimer.proofs.sets.Waiting.{in-same}
-use Rattle.retimer.proofs.sets.Parts.{rows-end, part-length, part-at, part-narrow, put-length, put-at, put-before, put-after, put-narrow}
+use Rattle.retimer.proofs.sets.Parts.{rows-end, part-length, part-at, part-narrow, put-length, put-at, put-narrow, put-other}
 
 -- Configurations by their parts.
 pub point : {l m x y z w : ℕ} → l ≡ m → x ≡ y → z ≡ w → _≡_ {A = Configuration} (record { location = l; x = x; y = z }) (record { location = m; x = y; y = w })
@@ -100,10 +100,6 @@ module _ (s : Bytes) (p : ℕ) (src nxt : List ℕ) (t : ℕ) (q : Plays s src n
           old : getD (take k (drop a nxt)) i 0 ≡ getD nxt (a + i) 0
           old = part-at nxt a k inside i less
 
-          other : (m ≡ t → ⊥) → (c : Bool) → ltb m t ≡ c → getD (putMid a k nxt new) (m * length src + i) 0 ≡ getD nxt (m * length src + i) 0
-          other z true y = put-before nxt a k inside new new-length (m * length src + i) (omega (arith, rows-end (length src) (ltb-true m t y)))
-          other z false y = put-after nxt a k inside new new-length (m * length src + i) (omega (arith, rows-end (length src) {t = t} {u = m} (omega (arith, ltb-false m t y))))
-
           go : (c : Bool) → eqb m t ≡ c → Marked (length src) (putMid a k nxt new) m x i ↔ (Marked (length src) nxt m x i ⊎ ((m ≡ byte s (p + 1)) × Led (transitionAt s p) src x i))
           go true z =
               let y = eqb-true m t z in
@@ -113,7 +109,7 @@ module _ (s : Bytes) (p : ℕ) (src nxt : List ℕ) (t : ℕ) (q : Plays s src n
               )
           go false z =
               let y = eqb-false m t z in
-              rw (other y (ltb m t) refl)
+              rw (put-other nxt t (length src) k inside same new new-length m i (omega arith) y)
               (inl, λ n. ⊎-elim (λ w. w) (λ w. absurd (y (w .0 ∙ sym e))) n)
 
       pub into-some : b ≡ true → FiredInto s (transitionAt s p) src nxt (putMid (t * length src) k nxt new) ((1 * 2 ^ t) % 2 ^ 16)

@@ -1,6 +1,6 @@
 -- An action after a wait as a transition on waited rows, over the locations of a set.
 -- Assumes nothing.
-use mathlib.Core.Path.{_≡_, refl, ap, sym, _∙_, subst}
+use mathlib.Core.Path.{_≡_, refl, ap, sym, _∙_, subst, subst⁻¹}
 use mathlib.Core.Bool.{Bool, true, false, cond, false≢true}
 use mathlib.Core.List.{List, [], _∷_}
 use mathlib.Core.Option.{some}
@@ -18,12 +18,12 @@ use Rattle.enforcement.specs.Loading.{Loads, Fits, AllFit, Bounded}
 use Rattle.enforcement.specs.TimedWord.{Configuration}
 use Rattle.enforcement.specs.Model.{top, width, advance}
 use Rattle.enforcement.proofs.Loading.{bounded}
-use Rattle.retimer.specs.Sets.{Narrow, Member, Waited, second, height, at, Whole, Cleared, Leads, Plays, PlayedAt, Moves, PlayedFrom, PlayedBelow, Covers}
+use Rattle.retimer.specs.Sets.{Narrow, Member, Waited, second, height, at, Whole, Cleared, Leads, Plays, PlayedAt, Marked, Becomes, Moves, LaterAt, PlayedFrom, PlayedBelow, Covers}
 use Rattle.retimer.specs.Steps.{One}
 use Rattle.enforcement.proofs.Bits.{none-in, in-or}
 use Rattle.retimer.proofs.Taking.{Taken, step-one}
 use Rattle.retimer.proofs.sets.Waiting.{in-same}
-use Rattle.retimer.proofs.sets.Parts.{rows-end, part-length, part-at, part-narrow, put-length, put-after, put-narrow, put-part}
+use Rattle.retimer.proofs.sets.Parts.{part-length, part-at, part-narrow, put-length, put-at, put-narrow, put-other, put-part}
 use Rattle.retimer.proofs.sets.Setting.{point, height-most, rows-inside}
 
 -- ---- A transition on waited rows
@@ -150,13 +150,27 @@ module _ (s : Bytes) (c l : ℕ) (set nxt : List ℕ) (h k : ℕ) (loads : Loads
               ticks = a .2;
               inside = a .3;
               member = in-same (a .0) (part-row (a .1) (a .3)) (a .4);
-              steps = step-one s loads c (advance (a .2) (at (height s) l (a .0) (a .1))) (at (height s) t x i) .1 (a .5);
+              good = step-one s loads c (advance (a .2) (at (height s) l (a .0) (a .1))) (at (height s) t x i) .1 (a .5);
             }
 
         from : Moves s c set l t x i → One (Leads c out t x i) (transitions s l)
         from n =
             after-one s c l (take k (drop (l * h) set)) out part-sized w t x i m (n .from-x) (n .from-i) (n .ticks) (n .inside) (in-same (n .from-x) (sym (part-row (n .from-i) (n .inside))) (n .member))
-            (transitions s l) (bounded s loads l) (step-one s loads c (advance (n .ticks) (at (height s) l (n .from-x) (n .from-i))) (at (height s) t x i) .0 (n .steps))
+            (transitions s l) (bounded s loads l) (step-one s loads c (advance (n .ticks) (at (height s) l (n .from-x) (n .from-i))) (at (height s) t x i) .0 (n .good))
+
+    -- A row of the part that was put.
+    put-row : (i : ℕ) → i < height s → getD put (l * height s + i) 0 ≡ getD out i 0
+    put-row i m = ap (λ (n : ℕ). getD put (l * n + i) 0) (sym e) ∙ put-at set (l * h) k inside out out-same i (omega arith)
+
+    waited : (x i : ℕ) → i < height s → Marked (height s) put l x i ↔ LaterAt s set l x i
+    waited x i m =
+        let r = w .right x i (omega (arith, part-sized)) in (
+          λ n. let a = r .0 (in-same x (put-row i m) n) in let y : a .from-i < height s = omega (arith, a .inside, part-sized) in
+              let z : i ≡ min (a .from-i + a .ticks) (height s - 1) = omega (arith, a .i-is, part-sized) in
+              record { from-x = a .from-x; from-i = a .from-i; ticks = a .ticks; inside = y; member = in-same (a .from-x) (part-row (a .from-i) y) (a .member); good = point refl (sym (a .x-is)) (sym (ap (second (height s)) z ∙ second-of s (a .from-i) (a .ticks) y)) },
+          λ a. let z = second-of s (a .from-i) (a .ticks) (a .inside) ∙ ap (λ (p : Configuration). p .y) (a .good) in
+              in-same x (sym (put-row i m)) (r .1 (record { from-x = a .from-x; from-i = a .from-i; ticks = a .ticks; inside = omega (arith, a .inside, part-sized); member = in-same (a .from-x) (sym (part-row (a .from-i) (a .inside))) (a .member); x-is = sym (ap (λ (p : Configuration). p .x) (a .good)); i-is = omega (arith, part-sized) })),
+        )
 
     pub played-from : (new : List ℕ) (v : ℕ) → PlayedAt s c l (take k (drop (l * h) put)) nxt new v → PlayedFrom s c l set put nxt new v
     played-from new v p = go (rw back at p)
@@ -164,7 +178,8 @@ module _ (s : Bytes) (c l : ℕ) (set nxt : List ℕ) (h k : ℕ) (loads : Loads
         go : PlayedAt s c l out nxt new v → PlayedFrom s c l set put nxt new v
         go q = record {
           source = record { sized = put-length set (l * h) k inside out out-same ∙ ws .sized; narrow = put-narrow set (l * h) k inside out out-same (ws .narrow) (w .narrow) };
-          others = λ j m. put-after set (l * h) k inside out out-same j (rw (same, e) m);
+          waited = waited;
+          others = λ m i. rw (← e) (put-other set l h k inside same out out-same m i);
           whole = q .whole;
           right = λ t x i m. let r = q .right t x i m in let y = moves t x i m in
               (λ n. ⊎-elim inl (λ a. inr (y .0 a)) (r .0 n), λ n. r .1 (⊎-elim inl (λ a. inr (y .1 a)) n));
@@ -176,16 +191,18 @@ module _ (s : Bytes) (c l : ℕ) (set nxt : List ℕ) (h k : ℕ) (loads : Loads
 
 -- ---- The loop over the locations
 
--- The first n locations are done, and the rows of the others are as they were.
+-- The first n locations are done and their rows waited, and the rows of the others are as they were.
 pub record Underway (s : Bytes) (c : ℕ) (set now nxt : List ℕ) (found n : ℕ) : Type 0 where
   pub source : Whole s now
-  pub rest : (j : ℕ) → n * height s ≤ j → getD now j 0 ≡ getD set j 0
+  pub waited : (l x i : ℕ) → l < n → i < height s → Marked (height s) now l x i ↔ LaterAt s set l x i
+  pub rest : (l i : ℕ) → n ≤ l → i < height s → getD now (l * height s + i) 0 ≡ getD set (l * height s + i) 0
   pub played : PlayedBelow s c set n nxt found
 
 pub underway-begun : (s : Bytes) (c : ℕ) (set nxt new : List ℕ) → Whole s set → Whole s nxt → Cleared nxt new (length nxt) → Underway s c set set new 0 0
 underway-begun s c set nxt new ws wn z = record {
   source = ws;
-  rest = λ j m. refl;
+  waited = λ l x i k m. absurd (omega arith);
+  rest = λ l i k m. refl;
   played = record {
     whole = record { sized = z .sized ∙ wn .sized; narrow = λ j. rw (empty j (ltb j (length nxt)) refl) (lib.Pow.pow-pos width) };
     right = λ t x i m. (λ n. absurd (none-in x (in-same x (empty (t * height s + i) (ltb (t * height s + i) (length nxt)) refl) n)), λ n. absurd (omega (arith, n .1)));
@@ -199,17 +216,29 @@ underway-begun s c set nxt new ws wn z = record {
 
 module _ {s : Bytes} {c : ℕ} {set now nxt : List ℕ} {found n : ℕ} (m : Underway s c set now nxt found n) where
   -- At location n the rows are those at the start.
-  moves-now : (t x i : ℕ) → Moves s c now n t x i ↔ Moves s c set n t x i
-  moves-now t x i = (
-    λ d. record { from-x = d .from-x; from-i = d .from-i; ticks = d .ticks; inside = d .inside; member = in-same (d .from-x) (m .rest (n * height s + d .from-i) (omega arith)) (d .member); steps = d .steps },
-    λ d. record { from-x = d .from-x; from-i = d .from-i; ticks = d .ticks; inside = d .inside; member = in-same (d .from-x) (sym (m .rest (n * height s + d .from-i) (omega arith))) (d .member); steps = d .steps },
+  row-now : (i : ℕ) → i < height s → getD now (n * height s + i) 0 ≡ getD set (n * height s + i) 0
+  row-now i h = m .rest n i (omega arith) h
+
+  becomes-now : {Q : Configuration → Type 0} → Becomes s now n Q ↔ Becomes s set n Q
+  becomes-now = (
+    λ d. record { from-x = d .from-x; from-i = d .from-i; ticks = d .ticks; inside = d .inside; member = in-same (d .from-x) (row-now (d .from-i) (d .inside)) (d .member); good = d .good },
+    λ d. record { from-x = d .from-x; from-i = d .from-i; ticks = d .ticks; inside = d .inside; member = in-same (d .from-x) (sym (row-now (d .from-i) (d .inside))) (d .member); good = d .good },
   )
+
+  -- A location below n + 1.
+  split : (l : ℕ) → l < n + 1 → (l < n) ⊎ (l ≡ n)
+  split l q = go (eqb l n) refl
+    where
+      go : (b : Bool) → eqb l n ≡ b → (l < n) ⊎ (l ≡ n)
+      go true y = inr (eqb-true l n y)
+      go false y = let w = eqb-false l n y in inl (omega arith)
 
   -- A location without members.
   pub underway-passed : (places : ℕ) → Covers s places set → bit places n ≡ false → Underway s c set now nxt found (n + 1)
   underway-passed places k z = record {
     source = m .source;
-    rest = λ j l. m .rest j (omega (arith, rows-end (height s) {t = n} {u = n + 1} (omega arith)));
+    waited = λ l x i q h. ⊎-elim (λ a. m .waited l x i a h) (λ a. subst⁻¹ (λ (j : ℕ). Marked (height s) now j x i ↔ LaterAt s set j x i) a (both x i h)) (split l q);
+    rest = λ l i q h. m .rest l i (omega arith) h;
     played = record {
       whole = m .played .whole;
       right = λ t x i l. let r = m .played .right t x i l in (λ d. let a = r .0 d in (a .0, omega (arith, a .1), a .2), λ d. r .1 (d .0, less t x i (d .0) (d .1) (d .2), d .2));
@@ -217,37 +246,38 @@ module _ {s : Bytes} {c : ℕ} {set now nxt : List ℕ} {found n : ℕ} (m : Und
     };
   }
     where
+      none-here : (x i : ℕ) → i < height s → Marked (height s) set n x i → ⊥
+      none-here x i h w = false≢true (sym z ∙ k n x i h w)
+
       less : (t x i l : ℕ) → l < n + 1 → Moves s c set l t x i → l < n
-      less t x i l q d = go (eqb l n) refl
-        where
-          go : (b : Bool) → eqb l n ≡ b → l < n
-          go true y = absurd (false≢true (sym z ∙ ap (bit places) (sym (eqb-true l n y)) ∙ k l (d .from-x) (d .from-i) (d .inside) (d .member)))
-          go false y = let w = eqb-false l n y in omega arith
+      less t x i l q d = ⊎-elim (λ a. a) (λ a. absurd (none-here (d .from-x) (d .from-i) (d .inside) (subst (λ (j : ℕ). Marked (height s) set j (d .from-x) (d .from-i)) a (d .member)))) (split l q)
+
+      -- Nothing waits there.
+      both : (x i : ℕ) → i < height s → Marked (height s) now n x i ↔ LaterAt s set n x i
+      both x i h = (λ w. absurd (none-here x i h (in-same x (row-now i h) w)), λ d. absurd (none-here (d .from-x) (d .from-i) (d .inside) (d .member)))
 
   -- A location with members.
   pub underway-more : (now' new : List ℕ) (v : ℕ) → PlayedFrom s c n now now' nxt new v → Underway s c set now' new (bitOr found v) (n + 1)
   underway-more now' new v f = record {
     source = f .source;
-    rest = λ j l. f .others j (omega (arith, after)) ∙ m .rest j (omega (arith, after));
+    waited = λ l x i q h. ⊎-elim (before l x i h) (λ a. subst⁻¹ (λ (j : ℕ). Marked (height s) now' j x i ↔ LaterAt s set j x i) a (here x i h)) (split l q);
+    rest = λ l i q h. f .others l i h (λ a. omega arith) ∙ m .rest l i (omega arith) h;
     played = record {
       whole = f .whole;
       right = λ t x i l. let r = m .played .right t x i l in let g = f .right t x i l in (
-        λ d. ⊎-elim (λ a. let b = r .0 a in (b .0, omega (arith, b .1), b .2)) (λ a. (n, omega arith, moves-now t x i .0 a)) (g .0 d),
-        λ d. g .1 (⊎-elim (λ a. inl (r .1 (d .0, a, d .2))) (λ a. inr (moves-now t x i .1 (subst (λ (j : ℕ). Moves s c set j t x i) a (d .2)))) (split (d .0) (d .1))),
+        λ d. ⊎-elim (λ a. let b = r .0 a in (b .0, omega (arith, b .1), b .2)) (λ a. (n, omega arith, becomes-now .0 a)) (g .0 d),
+        λ d. g .1 (⊎-elim (λ a. inl (r .1 (d .0, a, d .2))) (λ a. inr (becomes-now .1 (subst (λ (j : ℕ). Moves s c set j t x i) a (d .2)))) (split (d .0) (d .1))),
       );
       some = λ t. let r = m .played .some t in let g = f .some t in let o = in-or found v t in (
-        λ d. ⊎-elim (λ a. let b = r .0 a in (b .0, b .1, b .2, b .3, omega (arith, b .4), b .5)) (λ a. let b = g .0 a in (b .0, b .1, b .2, n, omega arith, moves-now t (b .0) (b .1) .0 (b .3))) (o .0 d),
-        λ d. o .1 (⊎-elim (λ a. inl (r .1 (d .0, d .1, d .2, d .3, a, d .5))) (λ a. inr (g .1 (d .0, d .1, d .2, moves-now t (d .0) (d .1) .1 (subst (λ (j : ℕ). Moves s c set j t (d .0) (d .1)) a (d .5))))) (split (d .3) (d .4))),
+        λ d. ⊎-elim (λ a. let b = r .0 a in (b .0, b .1, b .2, b .3, omega (arith, b .4), b .5)) (λ a. let b = g .0 a in (b .0, b .1, b .2, n, omega arith, becomes-now .0 (b .3))) (o .0 d),
+        λ d. o .1 (⊎-elim (λ a. inl (r .1 (d .0, d .1, d .2, d .3, a, d .5))) (λ a. inr (g .1 (d .0, d .1, d .2, becomes-now .1 (subst (λ (j : ℕ). Moves s c set j t (d .0) (d .1)) a (d .5))))) (split (d .3) (d .4))),
       );
     };
   }
     where
-      after : n * height s + height s ≡ (n + 1) * height s
-      after = sym (ap (λ (j : ℕ). j * height s) (native.Mathlib.Numerals.add-one n) ∙ native.Mathlib.Nat.suc-mul n (height s))
+      -- The rows before stay waited.
+      before : (l x i : ℕ) → i < height s → l < n → Marked (height s) now' l x i ↔ LaterAt s set l x i
+      before l x i h a = let r = m .waited l x i a h in let y = f .others l i h (λ b. omega arith) in (λ w. r .0 (in-same x y w), λ d. in-same x (sym y) (r .1 d))
 
-      split : (l : ℕ) → l < n + 1 → (l < n) ⊎ (l ≡ n)
-      split l q = go (eqb l n) refl
-        where
-          go : (b : Bool) → eqb l n ≡ b → (l < n) ⊎ (l ≡ n)
-          go true y = inr (eqb-true l n y)
-          go false y = let w = eqb-false l n y in inl (omega arith)
+      here : (x i : ℕ) → i < height s → Marked (height s) now' n x i ↔ LaterAt s set n x i
+      here x i h = let r = f .waited x i h in (λ w. becomes-now .0 (r .0 w), λ d. r .1 (becomes-now .1 d))

@@ -11,7 +11,7 @@ ghost use lib.ListN.{length};
 ghost use Rattle.enforcement.specs.Automaton.{transitionAt, locations};
 ghost use Rattle.enforcement.specs.Loading.{Loads, Fits};
 ghost use Rattle.retimer.specs.Readings.{Standing, located};
-ghost use Rattle.retimer.specs.Sets.{height, Whole, Cleared, Plays, FiredInto, PlayedAt, PlayedFrom, Reached, Played, Empty, Single};
+ghost use Rattle.retimer.specs.Sets.{height, Whole, Cleared, Plays, FiredInto, PlayedAt, PlayedFrom, Reached, Played, Elapsed, Empty, Single};
 
 // Takes the transition at p from the rows of its location into a set; answers the target's place if it leads anywhere.
 fn fire_into(s: &[u8], p: usize, src: &[u64], next: &mut [u64]) -> u16
@@ -68,10 +68,10 @@ fn clear(set: &mut [u64])
     }
 }
 
-// Waits, and plays an action: `next` becomes what it makes of the set, and the answer is where. The set is used up: only its form is promised.
+// Waits, and plays an action: `next` becomes what it makes of the set, and the answer is where. The set becomes what any wait makes of it.
 pub fn play(s: &[u8], c: u8, set: &mut [u64], places: u16, next: &mut [u64]) -> u16
     requires { ⌜ (Loads (now s)) × ((Reached (now s) (now set) places) × (Whole (now s) (now next))) ⌝ }
-    ensures { λ v. ⌜ (Played (now (s .entry)) c (now (set .entry)) (now (next .exit)) v) × (Whole (now (s .entry)) (now (set .exit))) ⌝ }
+    ensures { λ v. ⌜ (Played (now (s .entry)) c (now (set .entry)) (now (next .exit)) v) × (Elapsed (now (s .entry)) (now (set .entry)) (now (set .exit)) places) ⌝ }
 {
     clear(next);
     let count = bytes::wide(s[0]);

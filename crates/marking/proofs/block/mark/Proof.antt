@@ -27,29 +27,22 @@ slice-aggregate-call-at c = sheet-size (c .before .before .before .before .befor
 call-at-requires : tie.Need-call-at-requires Inv-loop μ-loop
 call-at-requires c κs = (c .before .before .loop .inv .valid, c .before .loop-test .taken)
 
-slice-aggregate-is-lit : tie.Need-slice-aggregate-is-lit Inv-loop μ-loop
-slice-aggregate-is-lit c = sheet-size (c .before .before .before .before .before .before .before .before .before .before .before .before .before .before .pre .0 .sound)
-
-is-lit-requires : tie.Need-is-lit-requires Inv-loop μ-loop
-is-lit-requires c κs = c .before .before .call-at .ensures .valid
-
 add-made : tie.Need-add-made Inv-loop μ-loop
-add-made c = let g = c .before .before .before .before .before .before .loop .inv in omega (arith, g .made-is, one-more g (c .before .before .before .before .before .loop-test .taken), c .before .before .before .before .before .before .before .before .before .before .before .before .before .before .before .pre .1 .0)
+add-made c = let g = c .before .before .before .before .loop .inv in omega (arith, g .made-is, one-more g (c .before .before .before .loop-test .taken), c .before .before .before .before .before .before .before .before .before .before .before .before .before .pre .1 .0)
 
 call-line-requires : tie.Need-call-line-requires Inv-loop μ-loop
-call-line-requires c κs = let g = c .before .before .before .before .before .before .before .loop .inv in omega (arith, g .few, g .inside, g .sized, c .before .before .before .before .before .before .before .before .before .before .before .before .before .before .before .before .pre .1 .1)
+call-line-requires c κs = let g = c .before .before .before .before .before .loop .inv in omega (arith, g .few, g .inside, g .sized, c .before .before .before .before .before .before .before .before .before .before .before .before .before .before .pre .1 .1)
 
 add-i : tie.Need-add-i Inv-loop μ-loop
-add-i c = omega (arith, c .before .before .before .before .before .before .before .before .before .loop-test .taken, c .before .before .before .before .before .before .before .before .before .before .before .before .before .before .before .before .before .before .before .good)
+add-i c = omega (arith, c .before .before .before .before .before .before .before .loop-test .taken, c .before .before .before .before .before .before .before .before .before .before .before .before .before .before .before .before .before .good)
 
 loop-less : tie.Need-loop-less Inv-loop μ-loop
-loop-less c = omega (arith, c .before .before .before .before .before .before .before .before .before .loop-test .taken)
+loop-less c = omega (arith, c .before .before .before .before .before .before .before .loop-test .taken)
 
 loop-again : tie.Need-loop-again Inv-loop μ-loop
 loop-again c =
     let w = c .before .before .call-line in
-    let q = c .before .before .before .before .is-lit in
-    goes-on (c .before .before .before .before .before .before .before .before .before .before .loop .inv) (c .before .before .before .before .before .before .before .before .before .loop-test .taken) (q .result) (c .before .before .before .before .before .before .before .call-at .ensures) (q .ensures) (c .before .before .before .before .before .before .before .before .before .before .before .before .before .before .before .before .before .before .before .pre .1 .1) (w .ensures) (w .kept .0)
+    goes-on (c .before .before .before .before .before .before .before .before .loop .inv) (c .before .before .before .before .before .before .before .loop-test .taken) (c .before .before .before .before .before .call-at .ensures) (c .before .before .before .before .before .before .before .before .before .before .before .before .before .before .before .before .before .pre .1 .1) (w .ensures) (w .kept .0)
 
 sub-tail-line : tie.Need-sub-tail-line Inv-loop μ-loop
 sub-tail-line c = let s = c .before .before .before .before .before .before .before .before .before .before .before .args .calls .now in let g = c .before .before .loop .inv in omega (arith, g .place, g .inside, parts s, rest-few s)
@@ -78,8 +71,6 @@ mark-spec =
     add-loop
     slice-aggregate-call-at
     call-at-requires
-    slice-aggregate-is-lit
-    is-lit-requires
     add-made
     call-line-requires
     add-i

@@ -52,7 +52,7 @@ target-accepts-requires : tie.Need-target-accepts-requires Inv-loop μ-loop
 target-accepts-requires c κs = let m = c .before .before .before .loop .inv .ends in let h = c .before .before .loop-test .taken in (c .before .before .before .before .before .before .before .before .before .pre .loads, (left-inside m h, left-fits m h))
 
 returns : tie.Need-returns Inv-loop μ-loop
-returns c = looking-correct (c .before .before .before .before .before .loop .inv) (c .before .before .before .before .loop-test .taken) (c .before .before .before .opens .ensures .0 (c .before .before .if1 .taken)) (sym (c .before .target-accepts .ensures) ∙ c .if2 .taken)
+returns c = looking-correct (c .before .before .before .before .before .loop .inv) _ (c .before .before .before .before .loop-test .taken) (c .before .before .before .opens .ensures .0 (c .before .before .if1 .taken)) (sym (c .before .target-accepts .ensures) ∙ c .if2 .taken)
 
 leads-live-requires : tie.Need-leads-live-requires Inv-loop μ-loop
 leads-live-requires c κs = left-asked (c .before .before .before .before .before .before .before .before .before .before .before .pre) (c .before .before .before .before .before .loop .inv .ends) (c .before .before .before .before .loop-test .taken)
@@ -76,10 +76,13 @@ loop-again-3 : tie.Need-loop-again-3 Inv-loop μ-loop
 loop-again-3 c = looking-other (c .before .before .before .loop .inv) (c .before .before .loop-test .taken) (λ w. false≢true (sym (c .if1 .left) ∙ c .before .opens .ensures .1 w))
 
 returns-2 : tie.Need-returns-2 Inv-loop μ-loop
-returns-2 c = looking-extensible (c .before .before .loop .inv) (c .before .loop-test .left) (c .if4 .taken)
+returns-2 c = looking-extensible (c .before .before .loop .inv) _ (c .before .loop-test .left) (c .if4 .taken)
+
+none-next-requires : tie.Need-none-next-requires Inv-loop μ-loop
+none-next-requires c κs = search needs
 
 returns-3 : tie.Need-returns-3 Inv-loop μ-loop
-returns-3 c = looking-none (c .before .before .loop .inv) (c .before .loop-test .left) (c .if4 .left)
+returns-3 c = looking-none (c .before .before .before .loop .inv) (c .before .before .loop-test .left) (c .before .if4 .left) (c .none-next .ensures)
 
 pub single-spec : {M : Type 1} → statement M
 single-spec =
@@ -107,4 +110,5 @@ single-spec =
     loop-less-3
     loop-again-3
     returns-2
+    none-next-requires
     returns-3)

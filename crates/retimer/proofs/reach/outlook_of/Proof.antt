@@ -4,10 +4,11 @@ use mathlib.Core.List.{List}
 use Prim.Native.Nat.{ℕ}
 use native.Mathlib.Omega.{arith}
 use Rattle.enforcement.specs.Model.{prospect}
+use Rattle.enforcement.specs.Monitor.{isLit}
 use Rattle.enforcement.proofs.Loading.{size-fits}
 use Rattle.retimer.specs.Readings.{located}
 use Rattle.retimer.specs.Optimum.{modelOf}
-use Rattle.retimer.specs.Outlook.{outlookOf}
+use Rattle.retimer.specs.Outlook.{outlookOf, frontOf}
 use Rattle.retimer.proofs.Outlooks.{one-action}
 use borrow.Author.Needs.{needs}
 use Rattle.retimer.proofs.reach.outlook_of.Statement.{statement}
@@ -22,19 +23,19 @@ single-requires c κs = search needs
 returns : tie.Need-returns
 returns c =
     let a = c .before .before .before .before .before .before in
-    c .single .ensures ∙ ap (λ (cs : List ℕ). outlookOf (prospect (modelOf (a .args .s .now)) cs (located (a .args .l) (a .args .r)))) (sym (one-action (a .args .cs .now) (c .before .before .if1 .taken)))
+    c .single .ensures ∙ ap (λ (cs : List ℕ). outlookOf (prospect (modelOf (a .args .s .now)) cs (located (a .args .l) (a .args .r))) (isLit (modelOf (a .args .s .now)) (located (a .args .l) (a .args .r)) (frontOf cs))) (sym (one-action (a .args .cs .now) (c .before .before .if1 .taken)))
 
 shared-slice-read-if2 : tie.Need-shared-slice-read-if2
-shared-slice-read-if2 c = omega (arith, size-fits _ (c .before .before .before .before .before .pre .loads))
+shared-slice-read-if2 c = omega (arith, size-fits _ (c .before .before .before .before .before .pre .0 .loads))
 
 outlook-one-clock-requires : tie.Need-outlook-one-clock-requires
-outlook-one-clock-requires c κs = search needs
+outlook-one-clock-requires c κs = let p = c .before .before .before .before .before .before .pre in ((p .0, omega (arith, p .1, c .before .before .if1 .left)), c .if2 .taken)
 
 returns-2 : tie.Need-returns-2
 returns-2 c = search needs
 
 outlook-two-clocks-requires : tie.Need-outlook-two-clocks-requires
-outlook-two-clocks-requires c κs = search needs
+outlook-two-clocks-requires c κs = let p = c .before .before .before .before .before .before .pre in ((p .0, omega (arith, p .1, c .before .before .if1 .left)), c .if2 .left)
 
 returns-3 : tie.Need-returns-3
 returns-3 c = search needs

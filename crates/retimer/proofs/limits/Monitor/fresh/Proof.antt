@@ -2,10 +2,12 @@
 -- Assumes nothing.
 use mathlib.Core.Logic.{inl, inr, ⊎-elim}
 use mathlib.Core.Path.{refl}
+use mathlib.Core.List.{[]}
 use native.Mathlib.Omega.{arith}
 use borrow.Author.Needs.{needs}
 use Rattle.enforcement.proofs.Loading.{size-fits}
-use Rattle.retimer.proofs.Loads.{second-is, fresh-right}
+use Rattle.retimer.proofs.Loads.{second-is, fresh-asked, fresh-right}
+use Rattle.retimer.proofs.Stuck.{lit-empty}
 use Rattle.retimer.proofs.limits.Monitor.fresh.Statement.{statement}
 use Rattle.retimer.proofs.limits.Monitor.fresh.Tie as tie
 
@@ -18,13 +20,22 @@ copied-requires c κs = size-fits (c .before .before .before .args .s .now) (c .
 shared-slice-read-if1 : tie.Need-shared-slice-read-if1
 shared-slice-read-if1 c = omega (arith, size-fits (c .before .before .before .before .before .args .s .now) (c .before .before .before .before .before .pre))
 
-shared-slice-read-t7 : tie.Need-shared-slice-read-t7
-shared-slice-read-t7 c = omega (arith, size-fits (c .before .before .before .before .before .before .before .args .s .now) (c .before .before .before .before .before .before .before .pre))
+shared-slice-read-location : tie.Need-shared-slice-read-location
+shared-slice-read-location c = omega (arith, size-fits (c .before .before .before .before .before .before .before .args .s .now) (c .before .before .before .before .before .before .before .pre))
+
+slice-aggregate-none-next : tie.Need-slice-aggregate-none-next
+slice-aggregate-none-next c = search needs
+
+none-next-requires : tie.Need-none-next-requires
+none-next-requires c κs =
+    let a = c .before .before .before .before .before .before .before .before in
+    fresh-asked (a .args .s .now) (c .before .before .if1 .second) (a .pre) (second-is (a .args .s .now) (c .before .before .if1 .second) (⊎-elim (λ w. inl (w .0 .taken, w .1)) (λ w. inr (w .0 .left, w .1)) (c .before .before .if1 .came))) (c .before .before .before .before .before .before .live-table .ensures)
 
 returns : tie.Need-returns
 returns c =
-    let a = c .before .before .before .before .before .before .before in
-    fresh-right (a .args .s .now) (c .before .before .before .copied .result) (c .before .before .before .before .before .live-table .result .counts) _ _ (c .before .if1 .second) (a .pre) (c .before .before .before .copied .ensures .0) (second-is (a .args .s .now) (c .before .if1 .second) (⊎-elim (λ w. inl (w .0 .taken, w .1)) (λ w. inr (w .0 .left, w .1)) (c .before .if1 .came))) (c .before .before .before .copied .ensures .1) (c .before .before .before .before .before .live-table .ensures) refl refl
+    let a = c .before .before .before .before .before .before .before .before .before in
+    fresh-right (a .args .s .now) (c .before .before .before .before .before .copied .result) (c .before .before .before .before .before .before .before .live-table .result .counts) _ _ (c .before .before .before .if1 .second) (c .none-next .result) (a .pre) (c .before .before .before .before .before .copied .ensures .0) (second-is (a .args .s .now) (c .before .before .before .if1 .second) (⊎-elim (λ w. inl (w .0 .taken, w .1)) (λ w. inr (w .0 .left, w .1)) (c .before .before .before .if1 .came))) (c .before .before .before .before .before .copied .ensures .1) (c .before .before .before .before .before .before .before .live-table .ensures) refl refl
+    (lit-empty (a .args .s .now) _ [] (c .none-next .result) refl (c .none-next .ensures))
 
 pub fresh-spec : {M : Type 1} → statement M
 fresh-spec =
@@ -33,5 +44,7 @@ fresh-spec =
     live-table-requires
     copied-requires
     shared-slice-read-if1
-    shared-slice-read-t7
+    shared-slice-read-location
+    slice-aggregate-none-next
+    none-next-requires
     returns)

@@ -10,8 +10,8 @@ use Rattle.retimer.specs.Readings.{located}
 use Rattle.retimer.specs.Optimum.{modelOf}
 use Rattle.retimer.specs.Calls.{decidedOf}
 use Rattle.retimer.proofs.Views.{done-same, dropped-done}
-use Rattle.retimer.proofs.Outlooks.{correct-prospect, extensible-prospect, dead-prospect}
-use Rattle.retimer.proofs.Decisions.{Worked, lamp-asked, last-is, correct-asked, hold-is, drop-is}
+use Rattle.retimer.proofs.Outlooks.{correct-prospect, extensible-prospect, dead-prospect, dead-lamp}
+use Rattle.retimer.proofs.Decisions.{Worked, lamp-asked, last-is, correct-asked, hold-is, hold-dark, drop-is, drop-lamp}
 use borrow.Author.Needs.{needs}
 use Rattle.retimer.proofs.limits.State.decide.Statement.{statement}
 use Rattle.retimer.proofs.limits.State.decide.Tie as tie
@@ -58,7 +58,8 @@ outlook-of-requires : tie.Need-outlook-of-requires
 outlook-of-requires c κs =
     let r = c .before .before .wait-many in
     let a = c .before .before .before .before .before .before .before .before in
-    lamp-asked (a .args .self) _ (r .result) (a .pre .0) (r .ensures .0)
+    let w = c .before in
+    (lamp-asked (a .args .self) _ (r .result) (a .pre .0) (r .ensures .0), omega (arith, length-take-le (a .args .self .held + 1) (w .with-action .result) (omega (arith, a .pre .0 .held-fits, w .with-action .ok))))
 
 enum-told : tie.Need-enum-told
 enum-told c = search needs
@@ -66,17 +67,19 @@ enum-told c = search needs
 correct-requires : tie.Need-correct-requires
 correct-requires c κs =
     let w = c .before .before .before .before in
-    let p = correct-prospect (sought w) (c .enum-told .given .1) (c .before .before .outlook-of .ensures) in
+    let p = correct-prospect (sought w) _ (c .enum-told .given .1) (c .before .before .outlook-of .ensures) in
     correct-asked (worked w) (p .0) (p .1)
 
 enum-told-2 : tie.Need-enum-told-2
 enum-told-2 c = search needs
 
 hold-requires : tie.Need-hold-requires
-hold-requires c κs = search needs
+hold-requires c κs =
+    let w = c .before .before .before .before in
+    (c .before .before .before .before .before .before .before .before .before .before .before .pre, hold-dark (worked w) (extensible-prospect (sought w) _ (c .enum-told2 .given .1) (c .before .before .outlook-of .ensures)))
 
-enum-told-3 : tie.Need-enum-told-3
-enum-told-3 c = search needs
+enum-known-o : tie.Need-enum-known-o
+enum-known-o c = search needs
 
 at-date-requires : tie.Need-at-date-requires
 at-date-requires c κs = search needs
@@ -90,13 +93,15 @@ returns c =
 returns-2 : tie.Need-returns-2
 returns-2 c =
     let w = c .before .before .before .before .before in
-    done-same (c .hold .ensures) (hold-is (worked w) (extensible-prospect (sought w) (c .before .enum-told2 .given .1) (c .before .before .before .outlook-of .ensures)))
+    done-same (c .hold .ensures) (hold-is (worked w) (extensible-prospect (sought w) _ (c .before .enum-told2 .given .1) (c .before .before .before .outlook-of .ensures)))
 
 returns-3 : tie.Need-returns-3
 returns-3 c =
-    let w = c .before .before .before .before .before in
-    let a = c .before .before .before .before .before .before .before .before .before .before .before .before in
-    rw (c .at-date .ensures) (dropped-done (a .args .self) (a .args .t) _ (a .pre .0) (a .pre .1) (drop-is (worked w) (dead-prospect (sought w) (c .before .enum-told3 .given .1) (c .before .before .before .outlook-of .ensures))))
+    let w = c .before .before .before .before .before .before in
+    let a = c .before .before .before .before .before .before .before .before .before .before .before .before .before in
+    let e = c .before .before .o .given in
+    let o = c .before .before .before .before .outlook-of .ensures in
+    rw (c .at-date .ensures) (dropped-done (a .args .self) (a .args .t) _ _ (a .pre .0) (a .pre .1) (drop-lamp (worked w) _ (dead-lamp (sought w) _ (e .1) o)) (drop-is (worked w) (dead-prospect (sought w) _ (e .1) o)))
 
 pub decide-spec : {M : Type 1} → statement M
 decide-spec =
@@ -114,7 +119,7 @@ decide-spec =
     correct-requires
     enum-told-2
     hold-requires
-    enum-told-3
+    enum-known-o
     at-date-requires
     returns
     returns-2

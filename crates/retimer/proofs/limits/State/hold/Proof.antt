@@ -12,7 +12,7 @@ refuse-requires c κs = search needs
 returns : tie.Need-returns
 returns c =
     let a = c .before .before .before .before in
-    rw (c .refuse .ensures) (full-done (a .args .t1) (a .args .c) (a .args .t) (a .pre .0) (omega (arith, c .before .if1 .taken)))
+    rw (c .refuse .ensures) (full-done (a .args .t1) (a .args .c) (a .args .t) (a .pre .0 .0) (omega (arith, c .before .if1 .taken)))
 
 element-write-self : tie.Need-element-write-self
 element-write-self c = search needs
@@ -29,7 +29,7 @@ cast-t15 c = search needs
 returns-2 : tie.Need-returns-2
 returns-2 c =
     let a = c .before .before .before in
-    held-done (a .args .t1) (a .args .c) (a .args .t) (a .pre .0) (a .pre .1) (omega (arith, c .if1 .left))
+    held-done (a .args .t1) (a .args .c) (a .args .t) (a .pre .0 .0) (a .pre .0 .1) (omega (arith, c .if1 .left)) (a .pre .1)
 
 pub hold-spec : {M : Type 1} → statement M
 hold-spec =

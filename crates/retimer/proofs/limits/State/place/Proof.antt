@@ -1,8 +1,8 @@
--- `State::place` meets its contract: too late, too many, and scheduled.
+-- `State::place` meets its contract: too late, too many, and else scheduled.
 -- Assumes nothing.
 use native.Mathlib.Omega.{arith}
 use borrow.Author.Needs.{needs}
-use Rattle.retimer.proofs.Views.{late-done, crowded-done, placed-done}
+use Rattle.retimer.proofs.Views.{late-done, crowded-done}
 use Rattle.retimer.proofs.limits.State.place.Statement.{statement}
 use Rattle.retimer.proofs.limits.State.place.Tie as tie
 
@@ -28,20 +28,11 @@ returns-2 c =
     let a = c .before .before .before .before .before .before in
     rw (c .refuse2 .ensures) (crowded-done (a .args .self) (a .args .t) (a .args .cs) (a .args .ds) (a .args .last) (a .pre .sound) (omega (arith, c .before .before .if1 .left)) (omega (arith, c .before .if2 .taken)))
 
-with-slots-requires : tie.Need-with-slots-requires
-with-slots-requires c κs = search needs
-
-add-self : tie.Need-add-self
-add-self c = search needs
-
-cast-t18 : tie.Need-cast-t18
-cast-t18 c = search needs
+schedule-all-requires : tie.Need-schedule-all-requires
+schedule-all-requires c κs = (c .before .before .before .before .before .pre, (omega (arith, c .before .if1 .left), omega (arith, c .if2 .left)))
 
 returns-3 : tie.Need-returns-3
-returns-3 c =
-    let a = c .before .before .before .before .before .before .before in
-    placed-done (a .args .self) (a .args .t) (a .args .cs) (a .args .ds) (a .args .location) (a .args .readings) (a .args .last) (c .with-slots .result) (a .pre) (c .with-slots .ensures .0)
-    (omega (arith, a .good)) (omega (arith, c .before .before .before .if1 .left)) (omega (arith, c .before .before .if2 .left)) (c .with-slots .ensures .1)
+returns-3 c = search needs
 
 pub place-spec : {M : Type 1} → statement M
 place-spec =
@@ -53,7 +44,5 @@ place-spec =
     sub-if2
     refuse-requires-2
     returns-2
-    with-slots-requires
-    add-self
-    cast-t18
+    schedule-all-requires
     returns-3)

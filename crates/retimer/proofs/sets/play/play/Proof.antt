@@ -1,6 +1,6 @@
--- `play::play` meets its contract. The invariant: the next set has what the first l locations lead to, and the rows of the others are as they were. The measure is what is left of the locations. Assumes nothing.
+-- `play::play` meets its contract. The invariant: the next set has what the first l locations lead to, their rows are waited, and the rows of the others are as they were. The measure is what is left of the locations. Assumes nothing.
 use Prim.Native.Nat.{_+_, _-_, _≤_}
-use Rattle.retimer.proofs.sets.Landing.{reached-covers, played-all}
+use Rattle.retimer.proofs.sets.Landing.{reached-covers, elapsed-all, played-all}
 use Rattle.retimer.proofs.sets.Stepping.{Underway, underway-begun, underway-passed, underway-more}
 use Rattle.enforcement.proofs.Loading.{header, size-fits}
 use Rattle.enforcement.specs.Automaton.{locations}
@@ -62,7 +62,7 @@ returns : tie.Need-returns Inv-loop μ-loop
 returns c =
     let h = c .before .loop .inv in
     let e : c .before .loop .l ≡ locations (c .before .before .before .before .before .before .before .before .before .before .before .args .s .now) = omega (arith, c .before .before .wide .ensures .0) in
-    (played-all _ (c .before .before .before .before .before .before .before .before .before .before .before .pre .0) _ _ _ _ _ (c .before .before .before .before .before .before .before .before .before .before .before .pre .1 .0) (rw (← e) (h .1 .played)), h .1 .source)
+    (played-all _ (c .before .before .before .before .before .before .before .before .before .before .before .pre .0) _ _ _ _ _ (c .before .before .before .before .before .before .before .before .before .before .before .pre .1 .0) (rw (← e) (h .1 .played)), elapsed-all _ _ _ _ (c .before .before .before .before .before .before .before .before .before .before .before .pre .1 .0) (h .1 .source) (rw (← e) (h .1 .waited)) (rw (← e) (h .1 .rest)))
 
 pub play-spec : {M : Type 1} → statement M
 play-spec =
