@@ -1,4 +1,5 @@
 // Runs each layer of the retimer on the course sheets and at the edges. What is expected stands in the file `stdout`, written from document 01.
+mod calls;
 mod clocks;
 mod guarded;
 mod lamp;
@@ -28,4 +29,5 @@ fn main() {
     lamp::all();
     replay::keys();
     replay::edges();
+    calls::all();
 }

@@ -9,7 +9,7 @@ use retimer::limits::State;
 use retimer::replay;
 use retimer::state::Answer;
 
-fn print_answer(a: Answer) {
+pub fn print_answer(a: Answer) {
     let mut out = [0u8; line::LINE];
     let end = line::put_answer(&mut out, 0, a);
     print::word(&out[..end]);

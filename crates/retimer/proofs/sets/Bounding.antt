@@ -3,7 +3,7 @@
 use mathlib.Core.Path.{_≡_, refl, ap, sym, _∙_}
 use mathlib.Core.Bool.{Bool, true, false, cond, false≢true}
 use mathlib.Core.Logic.{_⊎_, inl, inr, _↔_}
-use Prim.Native.Nat.{ℕ, _+_, _≤_, _<_}
+use Prim.Native.Nat.{ℕ, _+_, _/_, _%_, _≤_, _<_}
 use native.Mathlib.Omega.{arith}
 use lib.Dec.{eqb}
 use borrow.Author.Tests.{eqb-true, eqb-false}
@@ -101,22 +101,34 @@ pub record RowsAllowed (u : Transition) (h a b : ℕ) : Type 0 where
   pub some : 1 ≤ h
   pub right : (i : ℕ) → i < h → ((a ≤ i) × (i < b)) ↔ (within (u .low2) (u .high2) (second h i) ≡ true)
 
-pub rows-allowed : (s : Bytes) (u : Transition) (h a b : ℕ) → Fits s u → h ≡ height s → a ≡ cond (eqb h 1) 0 (u .low2) → b ≡ cond (eqb h 1) 1 (past (u .high2)) → RowsAllowed u h a b
-rows-allowed s u h a b f e p q = go (eqb (clocks s) 1) refl e
+-- One row is for one clock.
+one-clock-of : (s : Bytes) (h : ℕ) → h ≡ height s → h ≡ 1 → clocks s ≡ 1
+one-clock-of s h e o = go (eqb (clocks s) 1) refl e
   where
-    go : (t : Bool) → eqb (clocks s) 1 ≡ t → h ≡ cond t 1 width → RowsAllowed u h a b
-    go true c k =
-        let o = f .one-clock (eqb-true (clocks s) 1 c) in
-        let x : a ≡ 0 = p ∙ ap (λ (n : ℕ). cond (eqb n 1) 0 (u .low2)) k in
-        let y : b ≡ 1 = q ∙ ap (λ (n : ℕ). cond (eqb n 1) 1 (past (u .high2))) k in
-        record { ordered = omega arith; inside = omega arith; some = omega arith; right = λ i l. (λ _. test-true (within-tests (u .low2) (u .high2) (second h i)) (omega (arith, o .low-zero), inl (o .high-none)), λ _. (omega arith, omega arith)) }
-    go false c k =
-        let x : a ≡ u .low2 = p ∙ ap (λ (n : ℕ). cond (eqb n 1) 0 (u .low2)) k in
-        let y : b ≡ past (u .high2) = q ∙ ap (λ (n : ℕ). cond (eqb n 1) 1 (past (u .high2))) k in
-        let z = past-ordered (u .low2) (u .high2) (f .second) in
-        record {
-          ordered = omega (arith, z .0);
-          inside = omega (arith, z .1);
-          some = omega arith;
-          right = λ i l. let t : second h i ≡ i = omega arith in let w = within-past (u .low2) (u .high2) i (omega arith) in rw (x, y, t) w;
-        }
+    go : (t : Bool) → eqb (clocks s) 1 ≡ t → h ≡ cond t 1 width → clocks s ≡ 1
+    go true c k = eqb-true (clocks s) 1 c
+    go false c k = absurd (omega arith)
+
+module _ (s : Bytes) (u : Transition) (h : ℕ) (f : Fits s u) (e : h ≡ height s) where
+  pub row-allowed : h ≡ 1 → RowsAllowed u h 0 1
+  row-allowed o =
+      let k = f .one-clock (one-clock-of s h e o) in
+      record { ordered = omega arith; inside = omega arith; some = omega arith; right = λ i l. (λ _. test-true (within-tests (u .low2) (u .high2) (second h i)) (omega (arith, k .low-zero), inl (k .high-none)), λ _. (omega arith, omega arith)) }
+
+  -- There only the first clock can be reset.
+  pub row-reset : h ≡ 1 → (u .resets ≡ 0 → ⊥) → u .resets ≡ 1
+  row-reset o n = let k = eqb-false (u .resets / 2 % 2) 1 (f .one-clock (one-clock-of s h e o) .kept) in omega (arith, f .resets-fit)
+
+  pub rows-allowed : (a b : ℕ) → (h ≡ 1 → ⊥) → a ≡ u .low2 → b ≡ past (u .high2) → RowsAllowed u h a b
+  rows-allowed a b o x y = go (eqb (clocks s) 1) e
+    where
+      go : (t : Bool) → h ≡ cond t 1 width → RowsAllowed u h a b
+      go true k = absurd (o k)
+      go false k =
+          let z = past-ordered (u .low2) (u .high2) (f .second) in
+          record {
+            ordered = omega (arith, z .0);
+            inside = omega (arith, z .1);
+            some = omega arith;
+            right = λ i l. let t : second h i ≡ i = omega arith in let w = within-past (u .low2) (u .high2) i (omega arith) in rw (x, y, t) w;
+          }

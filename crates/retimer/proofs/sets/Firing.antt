@@ -1,18 +1,20 @@
 -- Laws of a transition on rows: what each of the four reset sets makes of them.
 -- Assumes nothing.
 use mathlib.Core.Path.{_≡_, refl, ap, sym, _∙_}
-use mathlib.Core.Bool.{true, false, cond, false≢true}
+use mathlib.Core.Bool.{true, cond, not}
 use mathlib.Core.List.{List}
 use mathlib.Core.Logic.{_⊎_, inl, inr, ⊎-elim, _↔_}
-use Prim.Native.Nat.{ℕ, _^_, _≤_, _<_}
+use Prim.Native.Nat.{ℕ, _≤_, _<_}
 use native.Mathlib.Omega.{arith}
+use lib.Dec.{eqb}
 use lib.ListN.{length}
+use borrow.Author.Tests.{eqb-false, ne-eqb, not-true}
 use Rattle.enforcement.specs.Automaton.{Transition, bit, enabled}
 use Rattle.enforcement.specs.Model.{top}
 use Rattle.enforcement.proofs.Tests.{test-true}
-use Rattle.retimer.specs.Row.{In}
+use Rattle.retimer.specs.Row.{In, Flag}
 use Rattle.retimer.specs.Sets.{Narrow, Member, United, Joined, Kept, Reset, second, Columns, Led, Fired}
-use Rattle.enforcement.proofs.Bits.{none-in, some-in, power-in}
+use Rattle.enforcement.proofs.Bits.{none-in, some-in}
 use Rattle.retimer.proofs.sets.Bounding.{enabled-tests, RowsAllowed}
 use Rattle.retimer.proofs.sets.Waiting.{in-same, member-at, member-reading}
 
@@ -42,37 +44,35 @@ module _ (u : Transition) (src : List ℕ) (cols a b : ℕ) (f : Columns u cols)
     allowed-from : (x i : ℕ) (l : Led u src x i) → Allowed (l .from-x) (l .from-i)
     allowed-from x i l = led-allowed x i l (member-reading src (l .from-x) (l .from-i) readings (l .member))
 
-    pub fired-none : (out : List ℕ) (any : ℕ) → any ≡ 0 → United src cols a b any → Narrow out → Fired u src out out false
-    fired-none out any e v n = record {
-      sized = refl;
-      narrow = n;
-      right = λ x i. (inl, λ w. ⊎-elim (λ m. m) (λ l. absurd (no x i l)) w);
-      some = (λ k. absurd (false≢true k), λ w. absurd (no (w .0) (w .1) (w .2)));
-    }
-      where
-        no : (x i : ℕ) → Led u src x i → ⊥
-        no x i l = let m = allowed-from x i l in none-in (l .from-x) (in-same (l .from-x) e (v .right (l .from-x) .1 (l .from-i, m .0, m .1, m .2, m .3)))
+    united-from : {any x i : ℕ} → United src cols a b any → (l : Led u src x i) → In (l .from-x) any
+    united-from {any} {x} {i} v l = let m = allowed-from x i l in v .right (l .from-x) .1 (l .from-i, m .0, m .1, m .2, m .3)
 
-    -- It leads somewhere.
-    fires : (any : ℕ) → any < 2 ^ 64 → (any ≡ 0 → ⊥) → United src cols a b any → (true ≡ true) ↔ ((x : ℕ) × (i : ℕ) × Led u src x i)
-    fires any k z v =
-        let w = some-in 64 any k z in
-        let m = v .right (w .0) .0 (w .1) in
-        (λ _. (cond (bit (u .resets) 0) 0 (w .0), cond (bit (u .resets) 1) 0 (m .0), leads (w .0) (m .0) (m .1, m .2, m .3, m .4) refl refl), λ _. refl)
+    -- Whether it leads anywhere.
+    leading : (any : ℕ) → United src cols a b any → (not (eqb any 0) ≡ true) ↔ ((x : ℕ) × (i : ℕ) × Led u src x i)
+    leading any v = (there, back)
+      where
+        there : not (eqb any 0) ≡ true → (x : ℕ) × (i : ℕ) × Led u src x i
+        there e =
+            let w = some-in 64 any (omega (arith, v .small)) (eqb-false any 0 (not-true (eqb any 0) e)) in
+            let m = v .right (w .0) .0 (w .1) in
+            (cond (bit (u .resets) 0) 0 (w .0), cond (bit (u .resets) 1) 0 (m .0), leads (w .0) (m .0) (m .1, m .2, m .3, m .4) refl refl)
+
+        back : (x : ℕ) × (i : ℕ) × Led u src x i → not (eqb any 0) ≡ true
+        back w = ap not (ne-eqb any 0 (λ z. none-in (w .2 .from-x) (in-same (w .2 .from-x) z (united-from v (w .2)))))
 
     -- Rows that gain just what the transition leads to.
-    fired : (out new : List ℕ) (any : ℕ) (Q : ℕ → ℕ → Type 0) (c d : ℕ) → any < 2 ^ 64 → (any ≡ 0 → ⊥) → United src cols a b any → Joined out new Q c d
-        → ((x i : ℕ) → ((c ≤ i) × (i < d) × Q x i) ↔ Led u src x i) → Fired u src out new true
-    fired out new any Q c d k z v j q = record {
+    fired : (out new : List ℕ) (any : ℕ) (Q : ℕ → ℕ → Type 0) (c d : ℕ) → United src cols a b any → Joined out new Q c d
+        → ((x i : ℕ) → ((c ≤ i) × (i < d) × Q x i) ↔ Led u src x i) → Fired u src out new (not (eqb any 0))
+    fired out new any Q c d v j q = record {
       sized = j .sized;
       narrow = j .narrow;
       right = λ x i. (λ n. ⊎-elim inl (λ w. inr (q x i .0 w)) (j .right x i .0 n), λ n. j .right x i .1 (⊎-elim inl (λ l. inr (q x i .1 l)) n));
-      some = fires any k z v;
+      some = leading any v;
     }
 
-    module _ (any : ℕ) (k : any < 2 ^ 64) (z : any ≡ 0 → ⊥) (v : United src cols a b any) (out new : List ℕ) where
-      pub fired-kept : u .resets ≡ 0 → Joined out new (Kept src cols) a b → Fired u src out new true
-      fired-kept e j = fired out new any (Kept src cols) a b k z v j (λ x i. (λ w. to x i (w .0, w .1, w .2 .0, w .2 .1), λ l. from x i l))
+    module _ (any : ℕ) (v : United src cols a b any) (out new : List ℕ) where
+      pub fired-kept : u .resets ≡ 0 → Joined out new (Kept src cols) a b → Fired u src out new (not (eqb any 0))
+      fired-kept e j = fired out new any (Kept src cols) a b v j (λ x i. (λ w. to x i (w .0, w .1, w .2 .0, w .2 .1), λ l. from x i l))
         where
           to : (x i : ℕ) → Allowed x i → Led u src x i
           to x i m = leads x i m (rw e refl) (rw e refl)
@@ -84,8 +84,8 @@ module _ (u : Transition) (src : List ℕ) (cols a b : ℕ) (f : Columns u cols)
               let q : l .from-i ≡ i = sym (l .i-is ∙ ap (λ (n : ℕ). cond (bit n 1) 0 (l .from-i)) e) in
               (omega (arith, m .0), omega (arith, m .1), (member-at src p q (m .2), sym (ap (bit cols) p) ∙ m .3))
 
-      pub fired-first : u .resets ≡ 1 → Joined out new (Reset src cols) a b → Fired u src out new true
-      fired-first e j = fired out new any (Reset src cols) a b k z v j (λ x i. (λ w. to x i (w .2 .1 .0) (w .2 .0) (w .0, w .1, w .2 .1 .1, w .2 .1 .2), λ l. from x i l))
+      pub fired-first : u .resets ≡ 1 → Joined out new (Reset src cols) a b → Fired u src out new (not (eqb any 0))
+      fired-first e j = fired out new any (Reset src cols) a b v j (λ x i. (λ w. to x i (w .2 .1 .0) (w .2 .0) (w .0, w .1, w .2 .1 .1, w .2 .1 .2), λ l. from x i l))
         where
           to : (x i y : ℕ) → x ≡ 0 → Allowed y i → Led u src x i
           to x i y o m = leads y i m (rw e o) (rw e refl)
@@ -97,8 +97,8 @@ module _ (u : Transition) (src : List ℕ) (cols a b : ℕ) (f : Columns u cols)
               let q : l .from-i ≡ i = sym (l .i-is ∙ ap (λ (n : ℕ). cond (bit n 1) 0 (l .from-i)) e) in
               (omega (arith, m .0), omega (arith, m .1), (p, (l .from-x, member-at src refl q (m .2), m .3)))
 
-      pub fired-second : u .resets ≡ 2 → Joined out new (λ (x i : ℕ). In x any) 0 1 → Fired u src out new true
-      fired-second e j = fired out new any (λ (x i : ℕ). In x any) 0 1 k z v j (λ x i. (λ w. to x i (omega (arith, w .1)) (v .right x .0 (w .2)), λ l. from x i l))
+      pub fired-second : u .resets ≡ 2 → Joined out new (λ (x i : ℕ). In x any) 0 1 → Fired u src out new (not (eqb any 0))
+      fired-second e j = fired out new any (λ (x i : ℕ). In x any) 0 1 v j (λ x i. (λ w. to x i (omega (arith, w .1)) (v .right x .0 (w .2)), λ l. from x i l))
         where
           to : (x i : ℕ) → i ≡ 0 → (y : ℕ) × (a ≤ y) × (y < b) × Member src x y × In x cols → Led u src x i
           to x i o m = leads x (m .0) (m .1, m .2, m .3, m .4) (rw e refl) (rw e o)
@@ -110,17 +110,16 @@ module _ (u : Transition) (src : List ℕ) (cols a b : ℕ) (f : Columns u cols)
               let q : i ≡ 0 = l .i-is ∙ ap (λ (n : ℕ). cond (bit n 1) 0 (l .from-i)) e in
               (omega arith, omega arith, v .right x .1 (l .from-i, m .0, m .1, member-at src p refl (m .2), sym (ap (bit cols) p) ∙ m .3))
 
-      pub fired-both : u .resets ≡ 3 → Joined out new (λ (x i : ℕ). In x 1) 0 1 → Fired u src out new true
-      fired-both e j = fired out new any (λ (x i : ℕ). In x 1) 0 1 k z v j (λ x i. (λ w. to x i (power-in 0 x .0 (w .2)) (omega (arith, w .1)), λ l. from x i l))
+      pub fired-both : (w : ℕ) → Flag any w → u .resets ≡ 3 → Joined out new (λ (x i : ℕ). In x w) 0 1 → Fired u src out new (not (eqb any 0))
+      fired-both w g e j = fired out new any (λ (x i : ℕ). In x w) 0 1 v j (λ x i. (λ n. to x i (g .right x .0 (n .2)) (omega (arith, n .1)), λ l. from x i l))
         where
-          to : (x i : ℕ) → x ≡ 0 → i ≡ 0 → Led u src x i
+          to : (x i : ℕ) → (x ≡ 0) × ((z : ℕ) × In z any) → i ≡ 0 → Led u src x i
           to x i o n =
-              let w = some-in 64 any k z in
-              let m = v .right (w .0) .0 (w .1) in
-              leads (w .0) (m .0) (m .1, m .2, m .3, m .4) (rw e o) (rw e n)
+              let m = v .right (o .1 .0) .0 (o .1 .1) in
+              leads (o .1 .0) (m .0) (m .1, m .2, m .3, m .4) (rw e (o .0)) (rw e n)
 
-          from : (x i : ℕ) → Led u src x i → (0 ≤ i) × (i < 1) × In x 1
+          from : (x i : ℕ) → Led u src x i → (0 ≤ i) × (i < 1) × In x w
           from x i l =
               let p : x ≡ 0 = l .x-is ∙ ap (λ (n : ℕ). cond (bit n 0) 0 (l .from-x)) e in
               let q : i ≡ 0 = l .i-is ∙ ap (λ (n : ℕ). cond (bit n 1) 0 (l .from-i)) e in
-              (omega arith, omega arith, power-in 0 x .1 p)
+              (omega arith, omega arith, g .right x .1 (p, (l .from-x, united-from v l)))

@@ -17,7 +17,7 @@ use Rattle.enforcement.specs.Model.{width}
 use Rattle.retimer.specs.Row.{In, Flag}
 use Rattle.retimer.specs.Sets.{Narrow, Member, United, Joined, Kept, Reset}
 use Rattle.enforcement.proofs.Bits.{none-in, in-or, in-and, power-in, some-in}
-use Rattle.retimer.proofs.sets.Waiting.{in-same, narrow-set}
+use Rattle.retimer.proofs.sets.Waiting.{in-same, member-at, narrow-set}
 
 -- ---- A union
 
@@ -43,6 +43,12 @@ united src cols a b i any s e h = rw (← e) (record {
   small = lt-of-le-of-lt (and-le-r any cols) s;
   right = λ x. (λ n. let u = in-and any cols x .0 n in let w = h x .0 (u .0) in (w .0, w .1, w .2, w .3, u .1), λ u. in-and any cols x .1 (h x .1 (u .0, u .1, u .2, u .3), u .4));
 })
+
+pub united-row : (src : List ℕ) (cols : ℕ) → cols < 2 ^ width → United src cols 0 1 (bitAnd (getD src 0 0) cols)
+united-row src cols s = record {
+  small = lt-of-le-of-lt (and-le-r (getD src 0 0) cols) s;
+  right = λ x. let w = in-and (getD src 0 0) cols x in (λ n. (0, omega arith, omega arith, w .0 n .0, w .0 n .1), λ u. w .1 (member-at src refl (omega (arith, u .2)) (u .3), u .4));
+}
 
 -- ---- Rows that gain readings
 

@@ -37,35 +37,41 @@ pub fn union(src: &[u64], cols: u64, a: usize, b: usize) -> u64
     any & cols
 }
 
-// Adds the readings in the rows from a up to b that are in cols: no clock is reset.
-pub fn add(src: &[u64], cols: u64, a: usize, b: usize, out: &mut [u64])
+// Adds the readings in the rows from a up to b that are in cols, and answers them: no clock is reset.
+pub fn add(src: &[u64], cols: u64, a: usize, b: usize, out: &mut [u64]) -> u64
     requires { ⌜ Adds (now src) cols a b (now out) ⌝ }
-    ensures { λ _. ⌜ Joined (now (out .entry)) (now (out .exit)) (Kept (now (src .entry)) cols) a b ⌝ }
+    ensures { λ v. ⌜ (Joined (now (out .entry)) (now (out .exit)) (Kept (now (src .entry)) cols) a b) × (United (now (src .entry)) cols a b v) ⌝ }
 {
+    let mut any = 0u64;
     let mut i = a;
     while i < b {
+        any = any | src[i];
         out[i] = out[i] | (src[i] & cols);
         i += 1;
     }
+    any & cols
 }
 
 // The reading 0, if there is any in e.
-fn flag(e: u64) -> u64
+pub fn flag(e: u64) -> u64
     ensures { λ v. ⌜ Flag e v ⌝ }
 {
     if e == 0 { 0 } else { 1 }
 }
 
-// Adds the reading 0 to each of the rows from a up to b that has one in cols: the first clock is reset.
-pub fn mark(src: &[u64], cols: u64, a: usize, b: usize, out: &mut [u64])
+// Adds the reading 0 to each of the rows from a up to b that has readings in cols, and answers these: the first clock is reset.
+pub fn mark(src: &[u64], cols: u64, a: usize, b: usize, out: &mut [u64]) -> u64
     requires { ⌜ Adds (now src) cols a b (now out) ⌝ }
-    ensures { λ _. ⌜ Joined (now (out .entry)) (now (out .exit)) (Reset (now (src .entry)) cols) a b ⌝ }
+    ensures { λ v. ⌜ (Joined (now (out .entry)) (now (out .exit)) (Reset (now (src .entry)) cols) a b) × (United (now (src .entry)) cols a b v) ⌝ }
 {
+    let mut any = 0u64;
     let mut i = a;
     while i < b {
+        any = any | src[i];
         out[i] = out[i] | flag(src[i] & cols);
         i += 1;
     }
+    any & cols
 }
 
 // Adds readings to the first row: the second clock is reset.
