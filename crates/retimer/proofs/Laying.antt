@@ -17,7 +17,7 @@ use Rattle.enforcement.proofs.Optimum.{Within}
 use Rattle.retimer.specs.Optimum.{modelOf}
 use Rattle.retimer.specs.Steps.{One}
 use Rattle.retimer.specs.Costs.{never, costAt, configuration, EndsBy}
-use Rattle.retimer.specs.Layers.{tick, Now, NowOne, cellOf, cell, Small, AllTicked, Laid}
+use Rattle.retimer.specs.Layers.{tick, Now, NowOne, cellOf, cell, Small, Ticked, AtOnce, Laid}
 use Rattle.retimer.proofs.Taking.{one-map, Taken, step-one}
 use Rattle.retimer.proofs.ProspectKinds.{within-timed, advance-none, advance-more, prospect-timed}
 use Rattle.retimer.proofs.CostLaws.{le-or-lt, within-cost, same-least, cost-most}
@@ -72,32 +72,32 @@ module _ (s : Bytes) (loads : Loads s) (c : ℕ) (cs : List ℕ) (l : ℕ) where
 
   -- ---- Tables
 
-  module _ (m : ℕ) (table table′ : List ℕ) (t : AllTicked m table table′) (now : (x y : ℕ) → x ≤ top → y ≤ top → (w : ℕ) → w < never → (cell table m x y ≤ w) ↔ NowOne s c cs l x y w) where
+  module _ (m : ℕ) (table table′ : List ℕ) (ticked : (x y : ℕ) → x ≤ top → y ≤ top → Ticked m x y table table′) (now : AtOnce s c cs l m table) where
     -- By the ticks that are left.
     laid-by : (w : ℕ) → w < never → (x y : ℕ) → x ≤ top → y ≤ top → (cell table′ m x y ≤ w) ↔ (costAt s (c ∷ cs) (configuration l x y) ≤ w)
     laid-by zero h x y a b =
         let law = now-or-later x y a b 0 h in
         let n = now x y a b 0 h in
-        let k = t .ticked x y a b in (
+        let k = ticked x y a b in (
           λ v. law .1 (inl (n .0 (omega arith))),
           λ v. ⊎-elim (λ o. omega (arith, n .1 o)) (λ e. absurd (omega arith)) (law .0 v),
         )
     laid-by (suc w) h x y a b =
         let law = now-or-later x y a b (suc w) h in
         let n = now x y a b (suc w) h in
-        let k = t .ticked x y a b in
+        let k = ticked x y a b in
         let r = laid-by w (omega arith) (tick x) (tick y) (omega arith) (omega arith) in (
           λ v. law .1 (split v k n r),
           λ v. ⊎-elim (λ o. omega (arith, n .1 o)) (λ e. omega (arith, r .1 (omega arith))) (law .0 v),
         )
       where
-        split : cell table′ m x y ≤ suc w → cell table′ m x y ≡ min (cell table m x y) (suc (cell table′ m (tick x) (tick y))) → (cell table m x y ≤ suc w) ↔ NowOne s c cs l x y (suc w)
+        split : cell table′ m x y ≤ suc w → Ticked m x y table table′ → (cell table m x y ≤ suc w) ↔ NowOne s c cs l x y (suc w)
             → (cell table′ m (tick x) (tick y) ≤ w) ↔ (costAt s (c ∷ cs) (configuration l (tick x) (tick y)) ≤ w) → NowOne s c cs l x y (suc w) ⊎ EndsBy s (c ∷ cs) (suc w) 1 (configuration l (tick x) (tick y))
         split v k n r = ⊎-elim (λ g. inl (n .0 g)) (λ g. inr (omega (arith, r .0 g))) (either v k)
           where
-            either : cell table′ m x y ≤ suc w → cell table′ m x y ≡ min (cell table m x y) (suc (cell table′ m (tick x) (tick y))) → (cell table m x y ≤ suc w) ⊎ (cell table′ m (tick x) (tick y) ≤ w)
+            either : cell table′ m x y ≤ suc w → Ticked m x y table table′ → (cell table m x y ≤ suc w) ⊎ (cell table′ m (tick x) (tick y) ≤ w)
             either v k = ⊎-elim (λ g. inl (omega arith)) (λ g. inr (omega arith)) (le-or-lt (cell table m x y) (suc (cell table′ m (tick x) (tick y))))
 
     -- A table that says what each configuration costs at once has, after the ticks, the costs.
     pub laid : length cs ≤ maxCount → Small table → Laid s (c ∷ cs) l m table′
-    laid few small x y a b = same-least (cell table′ m x y) (costAt s (c ∷ cs) (configuration l x y)) (let k = t .ticked x y a b in let g = small (cellOf m x y) in omega arith) (cost-most s (c ∷ cs) 0 (configuration l x y) (omega arith)) (λ w h. laid-by w h x y a b)
+    laid few small x y a b = same-least (cell table′ m x y) (costAt s (c ∷ cs) (configuration l x y)) (let k = ticked x y a b in let g = small (cellOf m x y) in omega arith) (cost-most s (c ∷ cs) 0 (configuration l x y) (omega arith)) (λ w h. laid-by w h x y a b)

@@ -1,6 +1,6 @@
 -- The costs of all locations, one after the other.
 -- Assumes nothing.
-use mathlib.Core.Path.{_≡_, refl, sym, _∙_, subst⁻¹}
+use mathlib.Core.Path.{_≡_, refl, sym, _∙_, subst, subst⁻¹}
 use mathlib.Core.Bool.{Bool, true, false, cond}
 use mathlib.Core.List.{List, []}
 use mathlib.Core.Logic.{_⊎_, inl, inr}
@@ -13,7 +13,7 @@ use borrow.Author.Tests.{eqb-true, eqb-false}
 use Rattle.enforcement.specs.Automaton.{Bytes, accepting, locations}
 use Rattle.enforcement.specs.Model.{width}
 use Rattle.retimer.specs.Costs.{never, configuration, placeOf, Ground}
-use Rattle.retimer.specs.Layers.{half, Small, Laid, Layer, Laying, Ready, Cleared, LocationLaid, OneLaid, Noted, Full, Lasts, Noting, Ended, LayersOf, Filled}
+use Rattle.retimer.specs.Layers.{half, Small, Laid, Layer, Laying, Ready, Cleared, LocationLaid, OneLaid, AllLaid, Noted, Full, Lasts, Noting, AllNoting, Ended, LayersOf, Filled}
 use Rattle.retimer.proofs.Arrays.{zero-at}
 use Rattle.retimer.proofs.CostLaws.{le-or-lt, end-cost}
 
@@ -48,73 +48,68 @@ parts-next {s} {cs} {l} {low} {high} {low′} {high′} p q i g = side (le-or-lt
     side (inl h) = let u = g .in-high h in (subst⁻¹ (Part s cs 0 (l + 1)) (u .1) (part-other p (inr (omega arith))), part-gained q (omega arith) (omega arith) (u .0))
     side (inr h) = let u = g .in-low h in (part-gained p h (omega arith) (u .0), subst⁻¹ (Part s cs half (l + 1)) (u .1) (part-other q (inl h)))
 
--- The locations before l are done.
-pub record InAll (s cs : List ℕ) (k : ℕ) (first₀ second₀ low high first second : List ℕ) (l : ℕ) : Type 0 where
-  pub not-past : l ≤ locations s
-  pub low-part : Part s (drop k cs) 0 l low
-  pub high-part : Part s (drop k cs) half l high
-  pub ground : Ground s cs first second
-  pub first-kept : length first ≡ length first₀
-  pub second-kept : length second ≡ length second₀
-  pub noted : (m : ℕ) → m < l → Noted k m first second
-  pub first-lasts : Lasts first₀ first
-  pub second-lasts : Lasts second₀ second
+-- ---- The notes of all locations
 
-module _ {s cs : List ℕ} {k : ℕ} {first₀ second₀ low high : List ℕ} where
-  pub all-begun : Ready 0 low → Ready 0 high → Ground s cs first₀ second₀ → InAll s cs k first₀ second₀ low high first₀ second₀ 0
-  all-begun a b g = record {
-    not-past = omega arith;
-    low-part = part-begun a (omega arith);
-    high-part = part-begun b (omega arith);
-    ground = g;
-    first-kept = refl;
-    second-kept = refl;
-    noted = λ m h. absurd (omega arith);
-    first-lasts = λ i h. h;
-    second-lasts = λ i h. h;
+module _ {s cs : List ℕ} {k h : ℕ} {first second : List ℕ} where
+  pub notes-begun : Ground s cs first second → AllNoting s cs k h 0 first second first second
+  notes-begun g = record { first-kept = refl; second-kept = refl; ground = g; noted = λ m o. absurd (omega arith); first-lasts = λ i o. o; second-lasts = λ i o. o }
+
+  pub notes-next : {m : ℕ} {first′ second′ first″ second″ : List ℕ} → AllNoting s cs k h m first second first′ second′ → Noting s cs k (h + m) first′ second′ first″ second″ → AllNoting s cs k h (m + 1) first second first″ second″
+  notes-next {m} {first′} {second′} {first″} {second″} w d = record {
+    first-kept = d .first-kept ∙ w .first-kept;
+    second-kept = d .second-kept ∙ w .second-kept;
+    ground = d .ground;
+    noted = λ n g. go n g (eqb n m) refl;
+    first-lasts = λ j o. d .first-lasts j (w .first-lasts j o);
+    second-lasts = λ j o. d .second-lasts j (w .second-lasts j o);
+  }
+    where
+      go : (n : ℕ) → n < m + 1 → (b : Bool) → eqb n m ≡ b → Noted k (h + n) first″ second″
+      go n g true q = subst⁻¹ (λ (j : ℕ). Noted k (h + j) first″ second″) (eqb-true n m q) (d .noted)
+      go n g false q =
+          let r : n ≡ m → ⊥ = eqb-false n m q in
+          let p : n < m = omega arith in
+          λ z u. (d .first-lasts (placeOf k (h + n) z) (w .noted n p z u .0), d .second-lasts (placeOf k (h + n) z) (w .noted n p z u .1))
+
+-- ---- Both tables
+
+-- The memos have the entries of all locations.
+full-by : (s cs : List ℕ) (k : ℕ) (first₀ second₀ first second : List ℕ) → Lasts first₀ first → Lasts second₀ second → ((m : ℕ) → m < locations s → Noted k m first second) → Full s cs (k + 1) first₀ second₀ → Full s cs k first second
+full-by s cs k first₀ second₀ first second one two noted full j m a b c = go (eqb j k) refl
+  where
+    go : (b : Bool) → eqb j k ≡ b → Noted j m first second
+    go true e = subst⁻¹ (λ (n : ℕ). Noted n m first second) (eqb-true j k e) (noted m c)
+    go false e =
+        let f : j ≡ k → ⊥ = eqb-false j k e in
+        let old = full j m (let g : k + 1 ≤ j = omega arith in g) b c in
+        λ z u. (one (placeOf j m z) (old z u .0), two (placeOf j m z) (old z u .1))
+
+module _ {s cs : List ℕ} {k : ℕ} {low high first₀ second₀ first second : List ℕ} (a : Ready 0 low) (b : Ready 0 high) (full : Full s cs (k + 1) first₀ second₀) where
+  -- All are in the low one.
+  pub low-only : {n : ℕ} → n ≡ locations s → n ≤ half → AllLaid s (drop k cs) 0 n low → AllNoting s cs k 0 n first₀ second₀ first second → LayersOf s cs k low high first second
+  low-only e h g d = record {
+    low-layer = record { size = a .size; laid = λ m i o. g m (omega arith) };
+    high-layer = record { size = b .size; laid = λ m i o. absurd (omega arith) };
+    low-small = a .small;
+    high-small = b .small;
+    ground = d .ground;
+    full = full-by s cs k first₀ second₀ first second (d .first-lasts) (d .second-lasts) (λ m o. let r : 0 + m ≡ m = omega arith in subst (λ (j : ℕ). Noted k j first second) r (d .noted m (omega arith))) full;
   }
 
-  module _ {first second : List ℕ} {l : ℕ} (w : InAll s cs k first₀ second₀ low high first second l) where
-    pub all-next : {low′ high′ first′ second′ : List ℕ} → l < locations s → l < half + half → OneLaid s (drop k cs) l low high low′ high′ → Noting s cs k l first second first′ second′ → length first′ ≡ length first → length second′ ≡ length second
-        → InAll s cs k first₀ second₀ low′ high′ first′ second′ (l + 1)
-    all-next {low′} {high′} {first′} {second′} o i g d e f = record {
-      not-past = omega arith;
-      low-part = parts .0;
-      high-part = parts .1;
-      ground = d .ground;
-      first-kept = e ∙ w .first-kept;
-      second-kept = f ∙ w .second-kept;
-      noted = λ m h. go m h (eqb m l) refl;
-      first-lasts = λ j h. d .first-lasts j (w .first-lasts j h);
-      second-lasts = λ j h. d .second-lasts j (w .second-lasts j h);
-    }
-      where
-        parts : Part s (drop k cs) 0 (l + 1) low′ × Part s (drop k cs) half (l + 1) high′
-        parts = parts-next (w .low-part) (w .high-part) i g
-
-        go : (m : ℕ) → m < l + 1 → (b : Bool) → eqb m l ≡ b → Noted k m first′ second′
-        go m h true q = subst⁻¹ (λ (n : ℕ). Noted k n first′ second′) (eqb-true m l q) (d .noted)
-        go m h false q =
-            let r : m ≡ l → ⊥ = eqb-false m l q in
-            let p : m < l = omega arith in
-            λ z u. (d .first-lasts (placeOf k m z) (w .noted m p z u .0), d .second-lasts (placeOf k m z) (w .noted m p z u .1))
-
-    pub all-done : locations s ≤ l → Full s cs (k + 1) first₀ second₀ → LayersOf s cs k low high first second
-    all-done h full = record {
-      low-layer = record { size = w .low-part .size; laid = λ m a b. w .low-part .laid m a (omega arith) b };
-      high-layer = record { size = w .high-part .size; laid = λ m a b. w .high-part .laid m a (omega arith) b };
-      low-small = w .low-part .small;
-      high-small = w .high-part .small;
-      ground = w .ground;
-      full = λ j m a b c. go j m a b c (eqb j k) refl;
-    }
-      where
-        go : (j m : ℕ) → k ≤ j → j < length cs → m < locations s → (b : Bool) → eqb j k ≡ b → Noted j m first second
-        go j m a b c true e = subst⁻¹ (λ (n : ℕ). Noted n m first second) (eqb-true j k e) (w .noted m (omega arith))
-        go j m a b c false e =
-            let f : j ≡ k → ⊥ = eqb-false j k e in
-            let old = full j m (let g : k + 1 ≤ j = omega arith in g) b c in
-            λ z u. (w .first-lasts (placeOf j m z) (old z u .0), w .second-lasts (placeOf j m z) (old z u .1))
+  pub low-and-high : {n : ℕ} {first′ second′ : List ℕ} → n ≡ locations s → half < n → AllLaid s (drop k cs) 0 half low → AllLaid s (drop k cs) half (n - half) high → AllNoting s cs k 0 half first₀ second₀ first′ second′
+      → AllNoting s cs k half (n - half) first′ second′ first second → LayersOf s cs k low high first second
+  low-and-high {n} {first′} {second′} e h g i d f = record {
+    low-layer = record { size = a .size; laid = λ m j o. g m j };
+    high-layer = record { size = b .size; laid = λ m j o. i m (omega arith) };
+    low-small = a .small;
+    high-small = b .small;
+    ground = f .ground;
+    full = full-by s cs k first₀ second₀ first second (λ j o. f .first-lasts j (d .first-lasts j o)) (λ j o. f .second-lasts j (d .second-lasts j o)) (λ m o. side m o (le-or-lt half m)) full;
+  }
+    where
+      side : (m : ℕ) → m < locations s → (half ≤ m) ⊎ (m < half) → Noted k m first second
+      side m o (inl q) = let r : half + (m - half) ≡ m = omega arith in subst (λ (j : ℕ). Noted k j first second) r (f .noted (m - half) (omega arith))
+      side m o (inr q) = λ z u. let r : 0 + m ≡ m = omega arith in let v = subst (λ (j : ℕ). Noted k j first′ second′) r (d .noted m q) z u in (f .first-lasts (placeOf k m z) (v .0), f .second-lasts (placeOf k m z) (v .1))
 
 -- ---- Where all is played
 

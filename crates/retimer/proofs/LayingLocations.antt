@@ -16,7 +16,7 @@ use Rattle.enforcement.specs.TimedWord.{fire}
 use Rattle.enforcement.specs.Model.{top, width}
 use Rattle.enforcement.proofs.Tests.{true-false}
 use Rattle.retimer.specs.Costs.{never, costAt, configuration, justReset, placeOf, Ground, Costed, AfterAsked}
-use Rattle.retimer.specs.Layers.{half, cellOf, cell, Small, Layer, Laid, AllTicked, Now, NowOne, BoxLowered, Laying, Ready, Cleared, Took, LocationLaid, Lasts, Noting}
+use Rattle.retimer.specs.Layers.{half, cellOf, cell, Small, Layer, Laid, AllTicked, Now, NowOne, BoxLowered, Laying, Ready, Cleared, Took, AtOnce, LocationWritten, AllWritten, AllLaid, Lasts, Noting}
 use Rattle.retimer.proofs.Left.{Left, left-begun, left-inside, left-fits, left-next, left-none}
 use Rattle.retimer.proofs.Prospects.{left-some}
 use Rattle.retimer.proofs.CostLaws.{le-or-lt}
@@ -123,8 +123,8 @@ pub record InLay (s cs : List ℕ) (k l m end : ℕ) (table₀ table : List ℕ)
 pub ready-cleared : {m : ℕ} {table table′ : List ℕ} → Ready m table → Cleared m never table table′ → Ready m table′
 ready-cleared b d = record { in-half = b .in-half; size = d .others .same-length ∙ b .size; small = d .small }
 
-pub gained-cleared : {s cs : List ℕ} {l m : ℕ} {table table′ next : List ℕ} → Cleared m never table table′ → LocationLaid s cs l m table′ next → LocationLaid s cs l m table next
-gained-cleared d g = record { others = record { same-length = g .others .same-length ∙ d .others .same-length; same = λ n x y f i j. g .others .same n x y f i j ∙ d .others .same n x y f i j }; small = g .small; laid = g .laid }
+pub written-cleared : {s : List ℕ} {c : ℕ} {cs : List ℕ} {l m : ℕ} {table table′ next : List ℕ} → Cleared m never table table′ → LocationWritten s c cs l m table′ next → LocationWritten s c cs l m table next
+written-cleared d g = record { others = record { same-length = g .others .same-length ∙ d .others .same-length; same = λ n x y f i j. g .others .same n x y f i j ∙ d .others .same n x y f i j }; small = g .small; at-once = g .at-once }
 
 module _ {s cs : List ℕ} {k l : ℕ} {low high : List ℕ} (a : Laying s cs k low high) (in-sheet : l < locations s) {m : ℕ} {table₀ : List ℕ} (b : Ready m table₀) where
   pub lay-begun : {table : List ℕ} {v n : ℕ} → Cleared m never table table₀ → v ≡ word s (6 + 4 * l) → n ≡ word s (6 + 4 * l + 2) → InLay s cs k l m (v + n) table₀ table₀ v
@@ -154,13 +154,28 @@ module _ {s cs : List ℕ} {k l : ℕ} {low high : List ℕ} (a : Laying s cs k 
       left = λ x y i j w o. left-next (h .left x y i j w o) q (d .takes x y i j w o);
     }
 
-    pub lay-done : {next : List ℕ} → end ≤ p → AllTicked m table next → LocationLaid s (drop k cs) l m table₀ next
-    lay-done {next} q d = record {
-      others = record { same-length = d .others .same-length ∙ h .same-length; same = λ n x y f i j. d .others .same n x y f i j ∙ h .same n x y f i j };
-      small = d .small;
-      laid = subst⁻¹ (λ (ds : List ℕ). Laid s ds l m next) (left-some cs k (a .more))
-          (laid s (a .loads) (getD cs k 0) (drop (k + 1) cs) l m table next d (λ x y i j w o. let n = left-none (h .left x y i j w o) q in (λ g. n .1 g, λ g. n .0 g)) (omega (arith, length-drop (k + 1) cs, a .few, a .more)) (h .small));
-    }
+    pub lay-done : end ≤ p → LocationWritten s (getD cs k 0) (drop (k + 1) cs) l m table₀ table
+    lay-done q = record { others = record { same-length = h .same-length; same = h .same }; small = h .small; at-once = λ x y i j w o. let n = left-none (h .left x y i j w o) q in (λ g. n .1 g, λ g. n .0 g) }
+
+-- ---- All locations of a table
+
+pub writes-begun : {s : List ℕ} {c : ℕ} {cs : List ℕ} {h : ℕ} {table : List ℕ} → Small table → AllWritten s c cs h 0 table table
+writes-begun small = record { same-length = refl; small = small; at-once = λ m g. absurd (omega arith) }
+
+pub writes-next : {s : List ℕ} {c : ℕ} {cs : List ℕ} {h m : ℕ} {table table′ next : List ℕ} → AllWritten s c cs h m table table′ → LocationWritten s c cs (h + m) m table′ next → AllWritten s c cs h (m + 1) table next
+writes-next {s} {c} {cs} {h} {m} {table} {table′} {next} w d = record { same-length = d .others .same-length ∙ w .same-length; small = d .small; at-once = λ n g. go n g (eqb n m) refl }
+  where
+    go : (n : ℕ) → n < m + 1 → (b : Bool) → eqb n m ≡ b → AtOnce s c cs (h + n) n next
+    go n g true e = subst⁻¹ (λ (j : ℕ). AtOnce s c cs (h + j) j next) (eqb-true n m e) (d .at-once)
+    go n g false e =
+        let f : n ≡ m → ⊥ = eqb-false n m e in
+        let o : n < m = omega arith in
+        λ x y i j. subst⁻¹ (λ (v : ℕ). (w : ℕ) → w < never → (v ≤ w) ↔ NowOne s c cs (h + n) x y w) (d .others .same n x y f i j) (w .at-once n o x y i j)
+
+-- After the ticks they have their costs.
+pub all-laid : {s cs : List ℕ} {k h n : ℕ} {low high table₀ table table′ : List ℕ} → Laying s cs k low high → AllWritten s (getD cs k 0) (drop (k + 1) cs) h n table₀ table → AllTicked n table table′ → AllLaid s (drop k cs) h n table′
+all-laid {s} {cs} {k} {h} {n} {low} {high} {table₀} {table} {table′} a w d m g = subst⁻¹ (λ (ds : List ℕ). Laid s ds (h + m) m table′) (left-some cs k (a .more))
+    (laid s (a .loads) (getD cs k 0) (drop (k + 1) cs) (h + m) m table table′ (λ x y i j. d .ticked m x y g i j) (w .at-once m g) (omega (arith, length-drop (k + 1) cs, a .few, a .more)) (w .small))
 
 -- ---- Notes
 
@@ -178,7 +193,7 @@ pub note-begun : {s cs : List ℕ} {k l : ℕ} {first second : List ℕ} → Gro
 note-begun g = record { z-fits = omega arith; ground = g; first-kept = refl; second-kept = refl; noted = λ y h. absurd (omega arith); first-lasts = λ i h. h; second-lasts = λ i h. h }
 
 pub note-done : {s cs : List ℕ} {k l : ℕ} {first₀ second₀ first second : List ℕ} {z : ℕ} → InNote s cs k l first₀ second₀ first second z → width ≤ z → Noting s cs k l first₀ second₀ first second
-note-done w h = record { ground = w .ground; noted = λ z k. w .noted z (omega arith); first-lasts = w .first-lasts; second-lasts = w .second-lasts }
+note-done w h = record { first-kept = w .first-kept; second-kept = w .second-kept; ground = w .ground; noted = λ z k. w .noted z (omega arith); first-lasts = w .first-lasts; second-lasts = w .second-lasts }
 
 -- An entry that is written is there, and the others are as before.
 entry-lasts : (memo : List ℕ) (i v j : ℕ) → i < length memo → 0 < getD memo j 0 → 0 < getD (set memo i (v + 1)) j 0

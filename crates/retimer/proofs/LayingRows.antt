@@ -1,6 +1,6 @@
 -- Rows of a table of costs, a place at a time.
 -- Assumes nothing.
-use mathlib.Core.Path.{_≡_, refl, ap, _∙_, subst}
+use mathlib.Core.Path.{_≡_, refl, ap, _∙_, subst, subst⁻¹}
 use mathlib.Core.Bool.{Bool, true, false}
 use mathlib.Core.List.{List}
 use mathlib.Core.Logic.{_⊎_, inl, inr, ⊎-elim}
@@ -13,7 +13,7 @@ use borrow.Author.Tests.{eqb-true, eqb-false}
 use Rattle.enforcement.specs.Model.{top, width}
 use Rattle.retimer.specs.Costs.{never}
 use Rattle.retimer.proofs.CostLaws.{le-or-lt}
-use Rattle.retimer.specs.Layers.{cellOf, cell, tick, Small, Ready, RowAsked, RowTicked, AllTicked, RowLowered}
+use Rattle.retimer.specs.Layers.{cellOf, cell, tick, Small, RowAsked, RowTicked, Ticked, RowsTicked, AllTicked, RowLowered}
 
 -- ---- By other costs
 
@@ -147,62 +147,95 @@ module _ {here : ℕ} {table : List ℕ} (a : RowAsked here table) where
             let d = w .done i (omega arith) k in
             omega arith
 
--- ---- All rows of a location
+-- ---- One row of all locations
+
+module _ {here above : ℕ} {table table′ : List ℕ} (r : RowTicked here above table table′) where
+  row-small : Small table → Small table′
+  row-small small i = by (le-or-lt here i) (le-or-lt (here + width) i)
+    where
+      by : (here ≤ i) ⊎ (i < here) → (here + width ≤ i) ⊎ (i < here + width) → getD table′ i 0 ≤ never
+      by (inr a) b = omega (arith, r .same i (inl a), small i)
+      by (inl a) (inl b) = omega (arith, r .same i (inr b), small i)
+      by (inl a) (inr b) =
+          let e : here + (i - here) ≡ i = omega arith in
+          let f : getD table′ (here + (i - here)) 0 ≡ getD table′ i 0 = ap (λ (j : ℕ). getD table′ j 0) e in
+          omega (arith, r .ticked (i - here) (omega arith), small (here + (i - here)))
+
+-- Other rows are as before.
+row-others : {m y above : ℕ} {table table′ : List ℕ} → RowTicked (cellOf m 0 y) above table table′ → y ≤ top → (n x z : ℕ) → (n ≡ m → ⊥) ⊎ (z ≡ y → ⊥) → x ≤ top → z ≤ top → cell table′ n x z ≡ cell table n x z
+row-others {m} {y} r y-fits n x z f k l = r .same (cellOf n x z) (away (le-or-lt n m) (le-or-lt m n) (le-or-lt z y) f)
+  where
+    away : (n ≤ m) ⊎ (m < n) → (m ≤ n) ⊎ (n < m) → (z ≤ y) ⊎ (y < z) → (n ≡ m → ⊥) ⊎ (z ≡ y → ⊥) → (cellOf n x z < cellOf m 0 y) ⊎ (cellOf m 0 y + width ≤ cellOf n x z)
+    away (inr a) b c d = inr (omega arith)
+    away (inl a) (inr b) c d = inl (omega arith)
+    away (inl a) (inl b) c (inl d) = absurd (d (omega arith))
+    away (inl a) (inl b) (inr c) (inr d) = inr (omega arith)
+    away (inl a) (inl b) (inl c) (inr d) = let g : z < y = omega arith in inl (omega arith)
+
+pub rows-begun : {y : ℕ} {table : List ℕ} → Small table → RowsTicked 0 y table table
+rows-begun small = record { same-length = refl; small = small; ticked = λ m x h k. absurd (omega arith); same = λ m x z f k l. refl }
+
+pub rows-next : {m y : ℕ} {table table′ next : List ℕ} → RowsTicked m y table table′ → y ≤ top → RowTicked (cellOf m 0 y) (cellOf m 0 (tick y)) table′ next → RowsTicked (m + 1) y table next
+rows-next {m} {y} {table} {table′} {next} w y-fits r = record {
+  same-length = r .same-length ∙ w .same-length;
+  small = row-small r (w .small);
+  ticked = λ n x h k. go n x h k (eqb n m) refl;
+  same = λ n x z f k l. row-others r y-fits n x z (⊎-elim (λ g. inl (λ e. omega arith)) inr f) k l ∙ w .same n x z (⊎-elim (λ g. inl (omega arith)) inr f) k l;
+}
+  where
+    own : (x : ℕ) → x ≤ top → Ticked m x y table next
+    own x k =
+        let a : getD next (cellOf m 0 y + x) 0 ≡ cell next m x y = ap (λ (j : ℕ). getD next j 0) (let q : cellOf m 0 y + x ≡ cellOf m x y = omega arith in q) in
+        let b : getD next (cellOf m 0 (tick y) + tick x) 0 ≡ cell next m (tick x) (tick y) = ap (λ (j : ℕ). getD next j 0) (let q : cellOf m 0 (tick y) + tick x ≡ cellOf m (tick x) (tick y) = omega arith in q) in
+        let d : getD table′ (cellOf m 0 y + x) 0 ≡ cell table m x y = ap (λ (j : ℕ). getD table′ j 0) (let q : cellOf m 0 y + x ≡ cellOf m x y = omega arith in q) ∙ w .same m x y (inl (omega arith)) k y-fits in
+        omega (arith, r .ticked x k)
+
+    go : (n x : ℕ) → n < m + 1 → x ≤ top → (b : Bool) → eqb n m ≡ b → Ticked n x y table next
+    go n x h k true e = subst⁻¹ (λ (j : ℕ). Ticked j x y table next) (eqb-true n m e) (own x k)
+    go n x h k false e =
+        let f : n ≡ m → ⊥ = eqb-false n m e in
+        let a = row-others r y-fits n x y (inl f) k y-fits in
+        let b = row-others r y-fits n (tick x) (tick y) (inl f) (omega arith) (omega arith) in
+        let d = w .ticked n x (let g : n < m = omega arith in g) k in
+        omega arith
+
+-- ---- All rows
 
 -- The rows from y on are done.
-pub record InTicks (m y : ℕ) (table table′ : List ℕ) : Type 0 where
+pub record InTicks (n y : ℕ) (table table′ : List ℕ) : Type 0 where
   pub y-fits : y ≤ width
   pub same-length : length table′ ≡ length table
   pub small : Small table′
-  pub done : (x z : ℕ) → x ≤ top → y ≤ z → z ≤ top → cell table′ m x z ≡ min (cell table m x z) (suc (cell table′ m (tick x) (tick z)))
-  pub rest : (i : ℕ) → (i < cellOf m 0 y) ⊎ (cellOf (m + 1) 0 0 ≤ i) → getD table′ i 0 ≡ getD table i 0
+  pub done : (m x z : ℕ) → m < n → x ≤ top → y ≤ z → z ≤ top → Ticked m x z table table′
+  pub rest : (m x z : ℕ) → (n ≤ m) ⊎ (z < y) → x ≤ top → z ≤ top → cell table′ m x z ≡ cell table m x z
 
-module _ {m : ℕ} {table : List ℕ} (ready : Ready m table) where
-  pub ticks-begun : InTicks m width table table
-  ticks-begun = record { y-fits = omega arith; same-length = refl; small = ready .small; done = λ x z h k l. absurd (omega arith); rest = λ i h. refl }
+module _ {n : ℕ} {table : List ℕ} where
+  pub ticks-begun : Small table → InTicks n width table table
+  ticks-begun small = record { y-fits = omega arith; same-length = refl; small = small; done = λ m x z g h k l. absurd (omega arith); rest = λ m x z f h k. refl }
 
-  module _ {y : ℕ} {table′ : List ℕ} (w : InTicks m y table table′) where
-    pub ticks-done : y ≤ 0 → AllTicked m table table′
-    ticks-done h = record {
-      others = record { same-length = w .same-length; same = λ n x z f k l. w .rest (cellOf n x z) (away n x z f k l (le-or-lt n m)) };
-      small = w .small;
-      ticked = λ x z k l. w .done x z k (omega arith) l;
+  module _ {y : ℕ} {table′ : List ℕ} (w : InTicks n y table table′) where
+    pub ticks-done : y ≤ 0 → AllTicked n table table′
+    ticks-done h = record { same-length = w .same-length; small = w .small; ticked = λ m x z g k l. w .done m x z g k (omega arith) l; same = λ m x z g k l. w .rest m x z (inl g) k l }
+
+    pub ticks-next : {next : List ℕ} → 0 < y → RowsTicked n (y - 1) table′ next → InTicks n (y - 1) table next
+    ticks-next {next} some r = record {
+      y-fits = let f = w .y-fits in omega arith;
+      same-length = r .same-length ∙ w .same-length;
+      small = r .small;
+      done = λ m x z g h k l. go m x z g h k l (eqb z (y - 1)) refl;
+      rest = λ m x z f h k. r .same m x z (⊎-elim inl (λ g. inr (λ e. omega arith)) f) h k ∙ w .rest m x z (⊎-elim inl (λ g. inr (omega arith)) f) h k;
     }
       where
-        away : (n x z : ℕ) → (n ≡ m → ⊥) → x ≤ top → z ≤ top → (n ≤ m) ⊎ (m < n) → (cellOf n x z < cellOf m 0 y) ⊎ (cellOf (m + 1) 0 0 ≤ cellOf n x z)
-        away n x z f k l (inl o) = let g : n < m = omega arith in inl (omega arith)
-        away n x z f k l (inr o) = inr (omega arith)
-
-    pub ticks-ready : Ready m table′
-    ticks-ready = record { in-half = ready .in-half; size = w .same-length ∙ ready .size; small = w .small }
-
-    pub ticks-next : {next : List ℕ} {here above : ℕ} → here ≡ cellOf m 0 (y - 1) → above ≡ cellOf m 0 (tick (y - 1)) → 0 < y → RowTicked here above table′ next → InTicks m (y - 1) table next
-    ticks-next {next} {here} {above} here-is above-is some r = record { y-fits = let f = w .y-fits in omega arith; same-length = r .same-length ∙ w .same-length; small = little; done = λ x z. go x z (eqb z (y - 1)) refl; rest = rest }
-      where
-        little : Small next
-        little i = by (le-or-lt here i) (le-or-lt (here + width) i)
-          where
-            by : (here ≤ i) ⊎ (i < here) → (here + width ≤ i) ⊎ (i < here + width) → getD next i 0 ≤ never
-            by (inr a) b = omega (arith, r .same i (inl a), w .small i)
-            by (inl a) (inl b) = omega (arith, r .same i (inr b), w .small i)
-            by (inl a) (inr b) =
-                let e : here + (i - here) ≡ i = omega arith in
-                let f : getD next (here + (i - here)) 0 ≡ getD next i 0 = ap (λ (j : ℕ). getD next j 0) e in
-                omega (arith, r .ticked (i - here) (omega arith), w .small (here + (i - here)))
-
-        rest : (i : ℕ) → (i < cellOf m 0 (y - 1)) ⊎ (cellOf (m + 1) 0 0 ≤ i) → getD next i 0 ≡ getD table i 0
-        rest i h = r .same i (⊎-elim (λ l. inl (omega arith)) (λ l. let f = w .y-fits in inr (omega arith)) h) ∙ w .rest i (⊎-elim (λ l. inl (omega arith)) inr h)
-
-        go : (x z : ℕ) (b : Bool) → eqb z (y - 1) ≡ b → x ≤ top → y - 1 ≤ z → z ≤ top → cell next m x z ≡ min (cell table m x z) (suc (cell next m (tick x) (tick z)))
-        go x z true e h k l =
+        go : (m x z : ℕ) → m < n → x ≤ top → y - 1 ≤ z → z ≤ top → (b : Bool) → eqb z (y - 1) ≡ b → Ticked m x z table next
+        go m x z g h k l true e =
             let f : z ≡ y - 1 = eqb-true z (y - 1) e in
-            let a : getD next (here + x) 0 ≡ cell next m x z = ap (λ (j : ℕ). getD next j 0) (let q : here + x ≡ cellOf m x z = omega arith in q) in
-            let b : getD next (above + tick x) 0 ≡ cell next m (tick x) (tick z) = ap (λ (j : ℕ). getD next j 0) (let q : above + tick x ≡ cellOf m (tick x) (tick z) = omega arith in q) in
-            let d : getD table′ (here + x) 0 ≡ cell table m x z = ap (λ (j : ℕ). getD table′ j 0) (let q : here + x ≡ cellOf m x z = omega arith in q) ∙ w .rest (cellOf m x z) (inl (omega arith)) in
-            omega (arith, r .ticked x h)
-        go x z false e h k l =
+            let a : Ticked m x z table′ next = subst⁻¹ (λ (j : ℕ). Ticked m x j table′ next) f (r .ticked m x g h) in
+            let d = w .rest m x z (inr (omega arith)) h l in
+            omega arith
+        go m x z g h k l false e =
             let f : z ≡ y - 1 → ⊥ = eqb-false z (y - 1) e in
-            let g : y ≤ z = omega arith in
-            let a = r .same (cellOf m x z) (inr (omega arith)) in
-            let b = r .same (cellOf m (tick x) (tick z)) (inr (omega arith)) in
-            omega (arith, w .done x z h g l)
+            let i : y ≤ z = omega arith in
+            let a = r .same m x z (inr f) h l in
+            let b = r .same m (tick x) (tick z) (inr (λ q. omega arith)) (omega arith) (omega arith) in
+            let d = w .done m x z g h i l in
+            omega arith

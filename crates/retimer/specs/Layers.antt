@@ -58,11 +58,23 @@ pub record RowTicked (here above : ℕ) (table table′ : List ℕ) : Type 0 whe
   pub ticked : (x : ℕ) → x ≤ top → getD table′ (here + x) 0 ≡ min (getD table (here + x) 0) (suc (getD table′ (above + tick x) 0))
   pub same : (i : ℕ) → (i < here) ⊎ (here + width ≤ i) → getD table′ i 0 ≡ getD table i 0
 
--- The same of all rows of a location.
-pub record AllTicked (m : ℕ) (table table′ : List ℕ) : Type 0 where
-  pub others : Others m table table′
+-- A cost of a table is the lesser of what it was and of one more than that a tick later.
+abbrev pub Ticked : ℕ → ℕ → ℕ → List ℕ → List ℕ → Type 0
+Ticked m x y table table′ = cell table′ m x y ≡ min (cell table m x y) (suc (cell table′ m (tick x) (tick y)))
+
+-- The row y of each location before n has its costs so, and all else is as before.
+pub record RowsTicked (n y : ℕ) (table table′ : List ℕ) : Type 0 where
+  pub same-length : length table′ ≡ length table
   pub small : Small table′
-  pub ticked : (x y : ℕ) → x ≤ top → y ≤ top → cell table′ m x y ≡ min (cell table m x y) (suc (cell table′ m (tick x) (tick y)))
+  pub ticked : (m x : ℕ) → m < n → x ≤ top → Ticked m x y table table′
+  pub same : (m x z : ℕ) → (n ≤ m) ⊎ (z ≡ y → ⊥) → x ≤ top → z ≤ top → cell table′ m x z ≡ cell table m x z
+
+-- The same of all rows.
+pub record AllTicked (n : ℕ) (table table′ : List ℕ) : Type 0 where
+  pub same-length : length table′ ≡ length table
+  pub small : Small table′
+  pub ticked : (m x y : ℕ) → m < n → x ≤ top → y ≤ top → Ticked m x y table table′
+  pub same : (m x y : ℕ) → n ≤ m → x ≤ top → y ≤ top → cell table′ m x y ≡ cell table m x y
 
 -- A table has, at its place m, the costs of the location l with the actions cs left.
 abbrev pub Laid : Bytes → List ℕ → ℕ → ℕ → List ℕ → Type 0
@@ -125,6 +137,31 @@ pub record Took (Q : ℕ → ℕ → ℕ → Type 0) (m : ℕ) (table table′ :
   pub small : Small table′
   pub takes : (x y : ℕ) → x ≤ top → y ≤ top → (w : ℕ) → w < never → (cell table′ m x y ≤ w) ↔ ((cell table m x y ≤ w) ⊎ Q x y w)
 
+-- A table has, at its place m, what the action c costs at once at the location l, with the actions cs after it.
+abbrev pub AtOnce : Bytes → ℕ → List ℕ → ℕ → ℕ → List ℕ → Type 0
+AtOnce s c cs l m table = (x y : ℕ) → x ≤ top → y ≤ top → (w : ℕ) → w < never → (cell table m x y ≤ w) ↔ NowOne s c cs l x y w
+
+-- A table has got that.
+pub record LocationWritten (s : Bytes) (c : ℕ) (cs : List ℕ) (l m : ℕ) (table table′ : List ℕ) : Type 0 where
+  pub others : Others m table table′
+  pub small : Small table′
+  pub at-once : AtOnce s c cs l m table′
+
+-- There are n locations from h on, which a table can hold.
+pub record Some (s : Bytes) (h n : ℕ) : Type 0 where
+  pub in-half : n ≤ half
+  pub in-sheet : h + n ≤ locations s
+
+-- A table has got it for n locations from h on.
+pub record AllWritten (s : Bytes) (c : ℕ) (cs : List ℕ) (h n : ℕ) (table table′ : List ℕ) : Type 0 where
+  pub same-length : length table′ ≡ length table
+  pub small : Small table′
+  pub at-once : (m : ℕ) → m < n → AtOnce s c cs (h + m) m table′
+
+-- A table has the costs of n locations from h on.
+abbrev pub AllLaid : Bytes → List ℕ → ℕ → ℕ → List ℕ → Type 0
+AllLaid s cs h n table = (m : ℕ) → m < n → Laid s cs (h + m) m table
+
 -- The costs of the location l with the actions cs left stand in its table; the other table is as before.
 pub record OneLaid (s cs : List ℕ) (l : ℕ) (low high low′ high′ : List ℕ) : Type 0 where
   pub in-low : l < half → LocationLaid s cs l l low low′ × (high′ ≡ high)
@@ -144,8 +181,19 @@ Lasts memo memo′ = (i : ℕ) → 0 < getD memo i 0 → 0 < getD memo′ i 0
 
 -- The memos are right, with the entries of one more location, and none is lost.
 pub record Noting (s cs : List ℕ) (k l : ℕ) (first second first′ second′ : List ℕ) : Type 0 where
+  pub first-kept : length first′ ≡ length first
+  pub second-kept : length second′ ≡ length second
   pub ground : Ground s cs first′ second′
   pub noted : Noted k l first′ second′
+  pub first-lasts : Lasts first first′
+  pub second-lasts : Lasts second second′
+
+-- The same with the entries of n locations from h on.
+pub record AllNoting (s cs : List ℕ) (k h n : ℕ) (first second first′ second′ : List ℕ) : Type 0 where
+  pub first-kept : length first′ ≡ length first
+  pub second-kept : length second′ ≡ length second
+  pub ground : Ground s cs first′ second′
+  pub noted : (m : ℕ) → m < n → Noted k (h + m) first′ second′
   pub first-lasts : Lasts first first′
   pub second-lasts : Lasts second second′
 

@@ -12,7 +12,7 @@ ghost use Rattle.enforcement.specs.Automaton.{locations, clocks, transitionAt};
 ghost use Rattle.enforcement.specs.Loading.{Loads, Fits};
 ghost use Rattle.enforcement.specs.Model.{top, width};
 ghost use Rattle.retimer.specs.Costs.{never, Ground};
-ghost use Rattle.retimer.specs.Layers.{cellOf, tick, RowAsked, RowTicked, half, AllTicked, LineAsked, RowLowered, BoxLowered, Now, Laying, Ready, Cleared, Took, LocationLaid, OneLaid, Noting, Full, Ended, LayersOf, Filled};
+ghost use Rattle.retimer.specs.Layers.{cellOf, tick, RowAsked, RowTicked, half, RowsTicked, AllTicked, LineAsked, RowLowered, BoxLowered, Now, Laying, Ready, Cleared, Took, Laid, Some, LocationWritten, AllWritten, AllLaid, OneLaid, Noting, AllNoting, Full, Ended, LayersOf, Filled};
 
 // A table has the costs of as many locations.
 const HALF: usize = Monitor::COUNT / 2;
@@ -79,15 +79,27 @@ fn tick_at(table: &mut [u16], m: usize, y: usize)
     tick_last(table, here);
 }
 
-// All rows of a location.
-fn ticks(table: &mut [u16], m: usize)
-    requires { ⌜ Ready m (now table) ⌝ }
-    ensures { λ _. ⌜ AllTicked m (now (table .entry)) (now (table .exit)) ⌝ }
+// The row y of each location before n.
+fn tick_rows(table: &mut [u16], n: usize, y: usize)
+    requires { ⌜ (Ready 0 (now table)) × ((n ≤ half) × (y ≤ top)) ⌝ }
+    ensures { λ _. ⌜ RowsTicked n y (now (table .entry)) (now (table .exit)) ⌝ }
+{
+    let mut m = 0;
+    while m < n {
+        tick_at(table, m, y);
+        m += 1;
+    }
+}
+
+// All rows of the locations before n. A row is done for all of them before the row that reads it: one that was just written is slow to read.
+fn ticks(table: &mut [u16], n: usize)
+    requires { ⌜ (Ready 0 (now table)) × (n ≤ half) ⌝ }
+    ensures { λ _. ⌜ AllTicked n (now (table .entry)) (now (table .exit)) ⌝ }
 {
     let mut y = Monitor::WIDTH;
     while 0 < y {
         y -= 1;
-        tick_at(table, m, y);
+        tick_rows(table, n, y);
     }
 }
 
@@ -198,8 +210,8 @@ fn clear(table: &mut [u16], m: usize, c: u16)
     }
 }
 
-// The costs of a location from the action k on.
-fn lay(
+// What the action k costs at once, without a tick, everywhere at a location.
+fn write(
     s: &[u8],
     cs: &[u8],
     k: usize,
@@ -210,7 +222,7 @@ fn lay(
     m: usize,
 )
     requires { ⌜ (Laying (now s) (now cs) k (now low) (now high)) × ((l < locations (now s)) × (Ready m (now table))) ⌝ }
-    ensures { λ _. ⌜ LocationLaid (now (s .entry)) (drop k (now (cs .entry))) l m (now (table .entry)) (now (table .exit)) ⌝ }
+    ensures { λ _. ⌜ LocationWritten (now (s .entry)) (getD (now (cs .entry)) k 0) (drop (k + 1) (now (cs .entry))) l m (now (table .entry)) (now (table .exit)) ⌝ }
 {
     clear(table, m, costs::NEVER);
     let pair = 6 + 4 * l;
@@ -220,26 +232,43 @@ fn lay(
         rule(s, cs, k, p, low, high, table, m);
         p += 7;
     }
-    ticks(table, m);
 }
 
-// The costs of a location from the action k on, and those right after a reset in the memos.
-fn lay_and_note(
+// The same for n locations from h on.
+fn write_all(
+    s: &[u8],
+    cs: &[u8],
+    k: usize,
+    h: usize,
+    low: &[u16],
+    high: &[u16],
+    table: &mut [u16],
+    n: usize,
+)
+    requires { ⌜ (Laying (now s) (now cs) k (now low) (now high)) × ((Some (now s) h n) × (Ready 0 (now table))) ⌝ }
+    ensures { λ _. ⌜ AllWritten (now (s .entry)) (getD (now (cs .entry)) k 0) (drop (k + 1) (now (cs .entry))) h n (now (table .entry)) (now (table .exit)) ⌝ }
+{
+    let mut m = 0;
+    while m < n {
+        write(s, cs, k, h + m, low, high, table, m);
+        m += 1;
+    }
+}
+
+// The costs of a location right after a reset before the action k, in the memos.
+fn note(
     s: &[u8],
     cs: &[u8],
     k: usize,
     l: usize,
-    low: &[u16],
-    high: &[u16],
-    table: &mut [u16],
+    table: &[u16],
     m: usize,
     first: &mut [u16],
     second: &mut [u16],
 )
-    requires { ⌜ ((Laying (now s) (now cs) k (now low) (now high)) × (1 ≤ k)) × (((l < locations (now s)) × (Ready m (now table))) × (Ground (now s) (now cs) (now first) (now second))) ⌝ }
-    ensures { λ _. ⌜ (LocationLaid (now (s .entry)) (drop k (now (cs .entry))) l m (now (table .entry)) (now (table .exit))) × (Noting (now (s .entry)) (now (cs .entry)) k l (now (first .entry)) (now (second .entry)) (now (first .exit)) (now (second .exit))) ⌝ }
+    requires { ⌜ (((1 ≤ k) × (k < length (now cs))) × (l < locations (now s))) × (((Ready m (now table)) × (Laid (now s) (drop k (now cs)) l m (now table))) × (Ground (now s) (now cs) (now first) (now second))) ⌝ }
+    ensures { λ _. ⌜ Noting (now (s .entry)) (now (cs .entry)) k l (now (first .entry)) (now (second .entry)) (now (first .exit)) (now (second .exit)) ⌝ }
 {
-    lay(s, cs, k, l, low, high, table, m);
     let base = costs::place(k, l as u8, 0);
     let mut z = 0;
     while z < Monitor::WIDTH {
@@ -251,27 +280,46 @@ fn lay_and_note(
     }
 }
 
-// The costs of a location from the action k on, in its table.
-fn lay_one(
+// The same for n locations from h on.
+fn note_all(
     s: &[u8],
     cs: &[u8],
     k: usize,
-    l: usize,
-    low: &[u16],
-    high: &[u16],
-    newlow: &mut [u16],
-    newhigh: &mut [u16],
+    h: usize,
+    table: &[u16],
+    n: usize,
     first: &mut [u16],
     second: &mut [u16],
 )
-    requires { ⌜ ((Laying (now s) (now cs) k (now low) (now high)) × ((1 ≤ k) × (l < locations (now s)))) × (((Ready 0 (now newlow)) × (Ready 0 (now newhigh))) × (Ground (now s) (now cs) (now first) (now second))) ⌝ }
-    ensures { λ _. ⌜ (OneLaid (now (s .entry)) (drop k (now (cs .entry))) l (now (newlow .entry)) (now (newhigh .entry)) (now (newlow .exit)) (now (newhigh .exit))) × (((length (now (first .exit)) ≡ length (now (first .entry))) × (length (now (second .exit)) ≡ length (now (second .entry)))) × (Noting (now (s .entry)) (now (cs .entry)) k l (now (first .entry)) (now (second .entry)) (now (first .exit)) (now (second .exit)))) ⌝ }
+    requires { ⌜ (((1 ≤ k) × (k < length (now cs))) × (Some (now s) h n)) × (((Ready 0 (now table)) × (AllLaid (now s) (drop k (now cs)) h n (now table))) × (Ground (now s) (now cs) (now first) (now second))) ⌝ }
+    ensures { λ _. ⌜ AllNoting (now (s .entry)) (now (cs .entry)) k h n (now (first .entry)) (now (second .entry)) (now (first .exit)) (now (second .exit)) ⌝ }
 {
-    if l < HALF {
-        lay_and_note(s, cs, k, l, low, high, newlow, l, first, second);
-        return;
+    let mut m = 0;
+    while m < n {
+        note(s, cs, k, h + m, table, m, first, second);
+        m += 1;
     }
-    lay_and_note(s, cs, k, l, low, high, newhigh, l - HALF, first, second);
+}
+
+// The costs of n locations from h on, from the action k on, in their table; those right after a reset in the memos.
+fn lay_some(
+    s: &[u8],
+    cs: &[u8],
+    k: usize,
+    h: usize,
+    n: usize,
+    low: &[u16],
+    high: &[u16],
+    table: &mut [u16],
+    first: &mut [u16],
+    second: &mut [u16],
+)
+    requires { ⌜ ((Laying (now s) (now cs) k (now low) (now high)) × ((1 ≤ k) × (Some (now s) h n))) × ((Ready 0 (now table)) × (Ground (now s) (now cs) (now first) (now second))) ⌝ }
+    ensures { λ _. ⌜ ((Ready 0 (now (table .exit))) × (AllLaid (now (s .entry)) (drop k (now (cs .entry))) h n (now (table .exit)))) × (AllNoting (now (s .entry)) (now (cs .entry)) k h n (now (first .entry)) (now (second .entry)) (now (first .exit)) (now (second .exit))) ⌝ }
+{
+    write_all(s, cs, k, h, low, high, table, n);
+    ticks(table, n);
+    note_all(s, cs, k, h, table, n, first, second);
 }
 
 // The costs of all locations from the action k on.
@@ -289,11 +337,13 @@ fn lay_all(
     requires { ⌜ ((Laying (now s) (now cs) k (now low) (now high)) × (1 ≤ k)) × (((Ready 0 (now newlow)) × (Ready 0 (now newhigh))) × ((Ground (now s) (now cs) (now first) (now second)) × (Full (now s) (now cs) (k + 1) (now first) (now second)))) ⌝ }
     ensures { λ _. ⌜ LayersOf (now (s .entry)) (now (cs .entry)) k (now (newlow .exit)) (now (newhigh .exit)) (now (first .exit)) (now (second .exit)) ⌝ }
 {
-    let mut l = 0;
-    while l < bytes::wide(s[0]) {
-        lay_one(s, cs, k, l, low, high, newlow, newhigh, first, second);
-        l += 1;
+    let n = bytes::wide(s[0]);
+    if n <= HALF {
+        lay_some(s, cs, k, 0, n, low, high, newlow, first, second);
+        return;
     }
+    lay_some(s, cs, k, 0, HALF, low, high, newlow, first, second);
+    lay_some(s, cs, k, HALF, n - HALF, low, high, newhigh, first, second);
 }
 
 // The costs of a location where all is played, in its table.

@@ -1,12 +1,12 @@
--- `layers::lay` meets its contract. Assumes nothing.
+-- `layers::write` meets its contract. Assumes nothing.
 use borrow.Author.Needs.{needs}
 use native.Mathlib.Omega.{arith}
 use mathlib.Core.Path.{_∙_}
 use Prim.Native.Nat.{_-_}
 use Rattle.enforcement.proofs.Loading.{header, pairs-fit}
-use Rattle.retimer.proofs.LayingLocations.{ready-cleared, gained-cleared, InLay, lay-begun, lay-inside, lay-fits, lay-ready, lay-next, lay-done}
-use Rattle.retimer.proofs.layers.lay.Statement.{statement}
-use Rattle.retimer.proofs.layers.lay.Tie as tie
+use Rattle.retimer.proofs.LayingLocations.{ready-cleared, written-cleared, InLay, lay-begun, lay-inside, lay-fits, lay-ready, lay-next, lay-done}
+use Rattle.retimer.proofs.layers.write.Statement.{statement}
+use Rattle.retimer.proofs.layers.write.Tie as tie
 
 abbrev Inv-loop : tie.InvT-loop
 Inv-loop s cs k l low high table₀ m pair p₀ end table p = InLay s cs k l m end table₀ table p
@@ -74,21 +74,17 @@ loop-again c =
     let a = c .before .before .before .before .before .before .before .before .before .before .before .before .before .before .before .before .before in
     lay-next (a .pre .0) (a .pre .1 .0) (ready-cleared (a .pre .1 .1) (c .before .before .before .before .before .before .before .before .before .before .clear .ensures)) (c .before .before .before .before .before .loop .inv) (omega arith) (c .before .before .rule .ensures)
 
-ticks-requires : tie.Need-ticks-requires Inv-loop μ-loop
-ticks-requires c κs =
-    let a = c .before .before .before .before .before .before .before .before .before .before .before .before .before .before in
-    lay-ready (a .pre .0) (a .pre .1 .0) (ready-cleared (a .pre .1 .1) (c .before .before .before .before .before .before .before .clear .ensures)) (c .before .before .loop .inv)
-
 same-length : tie.Need-same-length Inv-loop μ-loop
-same-length c = c .before .before .ticks .ensures .others .same-length ∙ c .before .before .before .before .before .loop .inv .same-length ∙ c .before .before .before .before .before .before .before .before .before .before .clear .ensures .others .same-length
+same-length c = c .before .loop .inv .same-length ∙ c .before .before .before .before .before .before .clear .ensures .others .same-length
 
 returns : tie.Need-returns Inv-loop μ-loop
 returns c =
-    let a = c .before .before .before .before .before .before .before .before .before .before .before .before .before .before .before .before .before in
-    gained-cleared (c .before .before .before .before .before .before .before .before .before .before .clear .ensures) (lay-done (a .pre .0) (a .pre .1 .0) (ready-cleared (a .pre .1 .1) (c .before .before .before .before .before .before .before .before .before .before .clear .ensures)) (c .before .before .before .before .before .loop .inv) (omega arith) (c .before .before .ticks .ensures))
+    let a = c .before .before .before .before .before .before .before .before .before .before .before .before .before in
+    let d = c .before .before .before .before .before .before .clear .ensures in
+    written-cleared d (lay-done (a .pre .0) (a .pre .1 .0) (ready-cleared (a .pre .1 .1) d) (c .before .loop .inv) (omega arith))
 
-pub lay-spec : {M : Type 1} → statement M
-lay-spec =
+pub write-spec : {M : Type 1} → statement M
+write-spec =
     tie.close
     (tie.spec
     Inv-loop
@@ -105,6 +101,5 @@ lay-spec =
     add-p
     loop-less
     loop-again
-    ticks-requires
     same-length
     returns)
