@@ -96,6 +96,7 @@ module _ {s cs : List ℕ} {k : ℕ} {low high first₀ second₀ first second :
     full = full-by s cs k first₀ second₀ first second (d .first-lasts) (d .second-lasts) (λ m o. let r : 0 + m ≡ m = omega arith in subst (λ (j : ℕ). Noted k j first second) r (d .noted m (omega arith))) full;
   }
 
+  -- Some are in the high one.
   pub low-and-high : {n : ℕ} {first′ second′ : List ℕ} → n ≡ locations s → half < n → AllLaid s (drop k cs) 0 half low → AllLaid s (drop k cs) half (n - half) high → AllNoting s cs k 0 half first₀ second₀ first′ second′
       → AllNoting s cs k half (n - half) first′ second′ first second → LayersOf s cs k low high first second
   low-and-high {n} {first′} {second′} e h g i d f = record {

@@ -149,17 +149,16 @@ module _ {here : ℕ} {table : List ℕ} (a : RowAsked here table) where
 
 -- ---- One row of all locations
 
-module _ {here above : ℕ} {table table′ : List ℕ} (r : RowTicked here above table table′) where
-  row-small : Small table → Small table′
-  row-small small i = by (le-or-lt here i) (le-or-lt (here + width) i)
-    where
-      by : (here ≤ i) ⊎ (i < here) → (here + width ≤ i) ⊎ (i < here + width) → getD table′ i 0 ≤ never
-      by (inr a) b = omega (arith, r .same i (inl a), small i)
-      by (inl a) (inl b) = omega (arith, r .same i (inr b), small i)
-      by (inl a) (inr b) =
-          let e : here + (i - here) ≡ i = omega arith in
-          let f : getD table′ (here + (i - here)) 0 ≡ getD table′ i 0 = ap (λ (j : ℕ). getD table′ j 0) e in
-          omega (arith, r .ticked (i - here) (omega arith), small (here + (i - here)))
+row-small : {here above : ℕ} {table table′ : List ℕ} → RowTicked here above table table′ → Small table → Small table′
+row-small {here} {above} {table} {table′} r small i = by (le-or-lt here i) (le-or-lt (here + width) i)
+  where
+    by : (here ≤ i) ⊎ (i < here) → (here + width ≤ i) ⊎ (i < here + width) → getD table′ i 0 ≤ never
+    by (inr a) b = omega (arith, r .same i (inl a), small i)
+    by (inl a) (inl b) = omega (arith, r .same i (inr b), small i)
+    by (inl a) (inr b) =
+        let e : here + (i - here) ≡ i = omega arith in
+        let f : getD table′ (here + (i - here)) 0 ≡ getD table′ i 0 = ap (λ (j : ℕ). getD table′ j 0) e in
+        omega (arith, r .ticked (i - here) (omega arith), small (here + (i - here)))
 
 -- Other rows are as before.
 row-others : {m y above : ℕ} {table table′ : List ℕ} → RowTicked (cellOf m 0 y) above table table′ → y ≤ top → (n x z : ℕ) → (n ≡ m → ⊥) ⊎ (z ≡ y → ⊥) → x ≤ top → z ≤ top → cell table′ n x z ≡ cell table n x z

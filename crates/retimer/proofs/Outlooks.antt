@@ -25,7 +25,7 @@ use Rattle.retimer.specs.Meeting.{Meets}
 use Rattle.retimer.specs.Live.{LiveTable}
 use Rattle.retimer.specs.Optimum.{modelOf}
 use Rattle.retimer.specs.Sets.{height, Contains, Reached, Played, Elapsed, Single}
-use Rattle.retimer.specs.Outlook.{outlookOf, frontOf, Ends, Lives, Some, SomeLive, Answers, Rated, RatedLast}
+use Rattle.retimer.specs.Outlook.{outlookOf, frontOf, Ends, Lives, Some, SomeLive, OutlookBy, Rated, RatedLast}
 use Rattle.retimer.proofs.ProspectKinds.{Kind, ends-kind, lives-kind, advance-none, prospect-kind}
 use Rattle.retimer.proofs.Played.{sooner-live, ends-nil, lives-nil, ends-is, lives-is, dead-is, dark-is}
 use Rattle.retimer.proofs.Stuck.{lit-some}
@@ -68,7 +68,7 @@ dark-by false h = (λ e. absurd (true≢false e), λ w. absurd (false≢true (h 
 -- ---- One action after another
 
 -- The answer by the same facts in other words.
-answers-same : {E L F E' L' F' : Type 0} → E ↔ E' → L ↔ L' → F ↔ F' → (o : Outlook) → Answers E L F o → Answers E' L' F' o
+answers-same : {E L F E' L' F' : Type 0} → E ↔ E' → L ↔ L' → F ↔ F' → (o : Outlook) → OutlookBy E L F o → OutlookBy E' L' F' o
 answers-same e l f Correct w = e .0 w
 answers-same e l f Extensible w = (λ v. w .0 (e .1 v), l .0 (w .1))
 answers-same e l f (Dead x) w = (λ v. w .0 (l .1 v), (λ z. f .0 (w .1 .0 z), λ v. w .1 .1 (f .1 v)))

@@ -148,7 +148,7 @@ pub record LocationWritten (s : Bytes) (c : ℕ) (cs : List ℕ) (l m : ℕ) (ta
   pub at-once : AtOnce s c cs l m table′
 
 -- There are n locations from h on, which a table can hold.
-pub record Some (s : Bytes) (h n : ℕ) : Type 0 where
+pub record Stretch (s : Bytes) (h n : ℕ) : Type 0 where
   pub in-half : n ≤ half
   pub in-sheet : h + n ≤ locations s
 

@@ -47,18 +47,18 @@ abbrev pub SomeLive : Bytes → List ℕ → Type 0
 SomeLive s set = (q : Configuration) × Contains s set q × (modelOf s .live q ≡ true)
 
 -- The answer by three facts: a prospect has a correction (E), one is not dead (L), and one without the last action is not dead (F).
-abbrev pub Answers : Type 0 → Type 0 → Type 0 → Outlook → Type 0
-Answers E L F Correct = E
-Answers E L F Extensible = (E → ⊥) × L
-Answers E L F (Dead x) = (L → ⊥) × ((x ≡ false) ↔ F)
+abbrev pub OutlookBy : Type 0 → Type 0 → Type 0 → Outlook → Type 0
+OutlookBy E L F Correct = E
+OutlookBy E L F Extensible = (E → ⊥) × L
+OutlookBy E L F (Dead x) = (L → ⊥) × ((x ≡ false) ↔ F)
 
 -- The answer for a set: the best of its members.
 abbrev pub Rated : Bytes → List ℕ → List ℕ → Outlook → Type 0
-Rated s cs set o = Answers (Some Ends s cs set) (Some Lives s cs set) (Some Lives s (frontOf cs) set) o
+Rated s cs set o = OutlookBy (Some Ends s cs set) (Some Lives s cs set) (Some Lives s (frontOf cs) set) o
 
 -- The answer where all is played, by the set reached and the one before the last action.
 abbrev pub RatedLast : Bytes → List ℕ → List ℕ → Outlook → Type 0
-RatedLast s set next o = Answers (Some Ends s [] next) (SomeLive s next) (SomeLive s set) o
+RatedLast s set next o = OutlookBy (Some Ends s [] next) (SomeLive s next) (SomeLive s set) o
 
 -- What is asked for the members of a set.
 pub record SetAsked (s : Bytes) (live set : List ℕ) (places : ℕ) : Type 0 where

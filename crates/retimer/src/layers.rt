@@ -12,7 +12,7 @@ ghost use Rattle.enforcement.specs.Automaton.{locations, clocks, transitionAt};
 ghost use Rattle.enforcement.specs.Loading.{Loads, Fits};
 ghost use Rattle.enforcement.specs.Model.{top, width};
 ghost use Rattle.retimer.specs.Costs.{never, Ground};
-ghost use Rattle.retimer.specs.Layers.{cellOf, tick, RowAsked, RowTicked, half, RowsTicked, AllTicked, LineAsked, RowLowered, BoxLowered, Now, Laying, Ready, Cleared, Took, Laid, Some, LocationWritten, AllWritten, AllLaid, OneLaid, Noting, AllNoting, Full, Ended, LayersOf, Filled};
+ghost use Rattle.retimer.specs.Layers.{cellOf, tick, RowAsked, RowTicked, half, RowsTicked, AllTicked, LineAsked, RowLowered, BoxLowered, Now, Laying, Ready, Cleared, Took, Laid, Stretch, LocationWritten, AllWritten, AllLaid, OneLaid, Noting, AllNoting, Full, Ended, LayersOf, Filled};
 
 // A table has the costs of as many locations.
 const HALF: usize = Monitor::COUNT / 2;
@@ -245,7 +245,7 @@ fn write_all(
     table: &mut [u16],
     n: usize,
 )
-    requires { ⌜ (Laying (now s) (now cs) k (now low) (now high)) × ((Some (now s) h n) × (Ready 0 (now table))) ⌝ }
+    requires { ⌜ (Laying (now s) (now cs) k (now low) (now high)) × ((Stretch (now s) h n) × (Ready 0 (now table))) ⌝ }
     ensures { λ _. ⌜ AllWritten (now (s .entry)) (getD (now (cs .entry)) k 0) (drop (k + 1) (now (cs .entry))) h n (now (table .entry)) (now (table .exit)) ⌝ }
 {
     let mut m = 0;
@@ -291,7 +291,7 @@ fn note_all(
     first: &mut [u16],
     second: &mut [u16],
 )
-    requires { ⌜ (((1 ≤ k) × (k < length (now cs))) × (Some (now s) h n)) × (((Ready 0 (now table)) × (AllLaid (now s) (drop k (now cs)) h n (now table))) × (Ground (now s) (now cs) (now first) (now second))) ⌝ }
+    requires { ⌜ (((1 ≤ k) × (k < length (now cs))) × (Stretch (now s) h n)) × (((Ready 0 (now table)) × (AllLaid (now s) (drop k (now cs)) h n (now table))) × (Ground (now s) (now cs) (now first) (now second))) ⌝ }
     ensures { λ _. ⌜ AllNoting (now (s .entry)) (now (cs .entry)) k h n (now (first .entry)) (now (second .entry)) (now (first .exit)) (now (second .exit)) ⌝ }
 {
     let mut m = 0;
@@ -314,7 +314,7 @@ fn lay_some(
     first: &mut [u16],
     second: &mut [u16],
 )
-    requires { ⌜ ((Laying (now s) (now cs) k (now low) (now high)) × ((1 ≤ k) × (Some (now s) h n))) × ((Ready 0 (now table)) × (Ground (now s) (now cs) (now first) (now second))) ⌝ }
+    requires { ⌜ ((Laying (now s) (now cs) k (now low) (now high)) × ((1 ≤ k) × (Stretch (now s) h n))) × ((Ready 0 (now table)) × (Ground (now s) (now cs) (now first) (now second))) ⌝ }
     ensures { λ _. ⌜ ((Ready 0 (now (table .exit))) × (AllLaid (now (s .entry)) (drop k (now (cs .entry))) h n (now (table .exit)))) × (AllNoting (now (s .entry)) (now (cs .entry)) k h n (now (first .entry)) (now (second .entry)) (now (first .exit)) (now (second .exit))) ⌝ }
 {
     write_all(s, cs, k, h, low, high, table, n);
