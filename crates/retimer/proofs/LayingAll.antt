@@ -1,21 +1,25 @@
 -- The costs of all locations, one after the other.
 -- Assumes nothing.
-use mathlib.Core.Path.{_≡_, refl, sym, _∙_, subst, subst⁻¹}
+use mathlib.Core.Path.{_≡_, refl, ap, sym, _∙_, subst, subst⁻¹}
 use mathlib.Core.Bool.{Bool, true, false, cond}
-use mathlib.Core.List.{List, []}
+use mathlib.Core.List.{List, [], _∷_}
 use mathlib.Core.Logic.{_⊎_, inl, inr}
-use Prim.Native.Nat.{ℕ, _+_, _-_, _*_, _≤_, _<_}
+use Prim.Native.Nat.{ℕ, zero, suc, _+_, _-_, _*_, _≤_, _<_}
 use native.Mathlib.Omega.{arith}
 use lib.Dec.{eqb}
-use lib.ListN.{length, drop, replicate, length-replicate}
+use lib.ListN.{length, getD, drop, replicate, length-replicate}
 use lib.Seq.{drop-length}
 use borrow.Author.Tests.{eqb-true, eqb-false}
 use Rattle.enforcement.specs.Automaton.{Bytes, accepting, locations}
 use Rattle.enforcement.specs.Model.{width}
 use Rattle.retimer.specs.Costs.{never, configuration, placeOf, Ground}
-use Rattle.retimer.specs.Layers.{half, Small, Laid, Layer, Laying, Ready, Cleared, LocationLaid, OneLaid, AllLaid, Noted, Full, Lasts, Noting, AllNoting, Ended, LayersOf, Filled}
+use Rattle.retimer.specs.Targets.{Has, EntersFrom, EntersFromAny, EntersAfter, InSheet, Gathered}
+use Rattle.retimer.specs.Layers.{half, Chosen, Small, Laid, Layer, Laying, Ready, Cleared, LocationLaid, OneLaid, AllLaid, Noted, Full, NotedFrom, Lasts, Noting, AllNoting, Ended, LayersOf, Filled}
 use Rattle.retimer.proofs.Arrays.{zero-at}
 use Rattle.retimer.proofs.CostLaws.{le-or-lt, end-cost}
+use Rattle.retimer.proofs.Prospects.{left-some}
+use Rattle.retimer.proofs.LayingRows.{chosen-last, chosen-before}
+use Rattle.retimer.proofs.LayingLocations.{layer-of}
 
 -- The part of a table that has costs: its locations from h on, those before l.
 pub record Part (s cs : List ℕ) (h l : ℕ) (table : List ℕ) : Type 0 where
@@ -51,66 +55,74 @@ parts-next {s} {cs} {l} {low} {high} {low′} {high′} p q i g = side (le-or-lt
 -- ---- The notes of all locations
 
 module _ {s cs : List ℕ} {k h : ℕ} {first second : List ℕ} where
-  pub notes-begun : Ground s cs first second → AllNoting s cs k h 0 first second first second
-  notes-begun g = record { first-kept = refl; second-kept = refl; ground = g; noted = λ m o. absurd (omega arith); first-lasts = λ i o. o; second-lasts = λ i o. o }
+  pub notes-begun : {i places : ℕ} → Ground s cs first second → AllNoting s cs k h (Chosen i 0 places) first second first second
+  notes-begun g = record { first-kept = refl; second-kept = refl; ground = g; noted = λ m o. absurd (omega (arith, o .in-range)); first-lasts = λ i o. o; second-lasts = λ i o. o }
 
-  pub notes-next : {m : ℕ} {first′ second′ first″ second″ : List ℕ} → AllNoting s cs k h m first second first′ second′ → Noting s cs k (h + m) first′ second′ first″ second″ → AllNoting s cs k h (m + 1) first second first″ second″
-  notes-next {m} {first′} {second′} {first″} {second″} w d = record {
-    first-kept = d .first-kept ∙ w .first-kept;
-    second-kept = d .second-kept ∙ w .second-kept;
-    ground = d .ground;
-    noted = λ n g. go n g (eqb n m) refl;
-    first-lasts = λ j o. d .first-lasts j (w .first-lasts j o);
-    second-lasts = λ j o. d .second-lasts j (w .second-lasts j o);
-  }
-    where
-      go : (n : ℕ) → n < m + 1 → (b : Bool) → eqb n m ≡ b → Noted k (h + n) first″ second″
-      go n g true q = subst⁻¹ (λ (j : ℕ). Noted k (h + j) first″ second″) (eqb-true n m q) (d .noted)
-      go n g false q =
-          let r : n ≡ m → ⊥ = eqb-false n m q in
-          let p : n < m = omega arith in
-          λ z u. (d .first-lasts (placeOf k (h + n) z) (w .noted n p z u .0), d .second-lasts (placeOf k (h + n) z) (w .noted n p z u .1))
+  module _ {places m : ℕ} {first′ second′ : List ℕ} (w : AllNoting s cs k h (Chosen h m places) first second first′ second′) where
+    pub notes-passed : (Has places (h + m) → ⊥) → AllNoting s cs k h (Chosen h (m + 1) places) first second first′ second′
+    notes-passed f = record { first-kept = w .first-kept; second-kept = w .second-kept; ground = w .ground; noted = λ n a. w .noted n (chosen-before f a); first-lasts = w .first-lasts; second-lasts = w .second-lasts }
+
+    pub notes-next : {first″ second″ : List ℕ} → Noting s cs k (h + m) first′ second′ first″ second″ → AllNoting s cs k h (Chosen h (m + 1) places) first second first″ second″
+    notes-next {first″} {second″} d = record {
+      first-kept = d .first-kept ∙ w .first-kept;
+      second-kept = d .second-kept ∙ w .second-kept;
+      ground = d .ground;
+      noted = λ n a. go n (chosen-last a);
+      first-lasts = λ j o. d .first-lasts j (w .first-lasts j o);
+      second-lasts = λ j o. d .second-lasts j (w .second-lasts j o);
+    }
+      where
+        go : (n : ℕ) → (n ≡ m) ⊎ (Chosen h m places n × (n ≡ m → ⊥)) → Noted k (h + n) first″ second″
+        go n (inl e) = subst⁻¹ (λ (j : ℕ). Noted k (h + j) first″ second″) e (d .noted)
+        go n (inr o) = λ z u. let v = w .noted n (o .0) z u in (d .first-lasts (placeOf k (h + n) z) (v .0), d .second-lasts (placeOf k (h + n) z) (v .1))
 
 -- ---- Both tables
 
--- The memos have the entries of all locations.
-full-by : (s cs : List ℕ) (k : ℕ) (first₀ second₀ first second : List ℕ) → Lasts first₀ first → Lasts second₀ second → ((m : ℕ) → m < locations s → Noted k m first second) → Full s cs (k + 1) first₀ second₀ → Full s cs k first second
-full-by s cs k first₀ second₀ first second one two noted full j m a b c = go (eqb j k) refl
+-- With the entries before the action k of all locations of a set, and those after it of all that it enters from there.
+full-by : (s cs : List ℕ) (k places : ℕ) (first₀ second₀ first second : List ℕ) → k < length cs → Lasts first₀ first → Lasts second₀ second → ((l : ℕ) → Has places l → Noted k l first second) → Full s cs (k + 1) (EntersFromAny s (getD cs k 0) places) first₀ second₀
+    → Full s cs k (Has places) first second
+full-by s cs k places first₀ second₀ first second more one two noted full n i l soon has way = go n soon (subst (λ (ds : List ℕ). EntersAfter s ds n i l) (left-some cs k more) way)
   where
-    go : (b : Bool) → eqb j k ≡ b → Noted j m first second
-    go true e = subst⁻¹ (λ (n : ℕ). Noted n m first second) (eqb-true j k e) (noted m c)
-    go false e =
-        let f : j ≡ k → ⊥ = eqb-false j k e in
-        let old = full j m (let g : k + 1 ≤ j = omega arith in g) b c in
-        λ z u. (one (placeOf j m z) (old z u .0), two (placeOf j m z) (old z u .1))
+    go : (n : ℕ) → k + n < length cs → EntersAfter s (getD cs k 0 ∷ drop (k + 1) cs) n i l → Noted (k + n) l first second
+    go zero soon way = let e : k + zero ≡ k = omega arith in subst⁻¹ (λ (j : ℕ). Noted j l first second) e (noted l (subst (Has places) way has))
+    go (suc n) soon way =
+        let e : k + suc n ≡ k + 1 + n = omega arith in
+        let old = full n (way .0) l (omega arith) (i, has, way .1) (way .2) in
+        subst⁻¹ (λ (j : ℕ). Noted j l first second) e (λ z u. (one (placeOf (k + 1 + n) l z) (old z u .0), two (placeOf (k + 1 + n) l z) (old z u .1)))
 
-module _ {s cs : List ℕ} {k : ℕ} {low high first₀ second₀ first second : List ℕ} (a : Ready 0 low) (b : Ready 0 high) (full : Full s cs (k + 1) first₀ second₀) where
+module _ {s cs : List ℕ} {k places : ℕ} {low high first₀ second₀ first second : List ℕ} (more : k < length cs) (inside : InSheet s places) (a : Ready 0 low) (b : Ready 0 high) (full : Full s cs (k + 1) (EntersFromAny s (getD cs k 0) places) first₀ second₀) where
   -- All are in the low one.
-  pub low-only : {n : ℕ} → n ≡ locations s → n ≤ half → AllLaid s (drop k cs) 0 n low → AllNoting s cs k 0 n first₀ second₀ first second → LayersOf s cs k low high first second
-  low-only e h g d = record {
-    low-layer = record { size = a .size; laid = λ m i o. g m (omega arith) };
-    high-layer = record { size = b .size; laid = λ m i o. absurd (omega arith) };
+  pub low-only : {n : ℕ} → n ≡ locations s → n ≤ half → AllLaid s (drop k cs) 0 (Chosen 0 n places) low → AllNoting s cs k 0 (Chosen 0 n places) first₀ second₀ first second → LayersOf s cs k places low high first second
+  low-only {n} e h g d = record {
+    low-layer = record { size = a .size; laid = λ m i o. g m (record { in-range = omega (arith, inside (0 + m) o); has = o }) };
+    high-layer = record { size = b .size; laid = λ m i o. absurd (omega (arith, inside (half + m) o)) };
     low-small = a .small;
     high-small = b .small;
     ground = d .ground;
-    full = full-by s cs k first₀ second₀ first second (d .first-lasts) (d .second-lasts) (λ m o. let r : 0 + m ≡ m = omega arith in subst (λ (j : ℕ). Noted k j first second) r (d .noted m (omega arith))) full;
+    full = full-by s cs k places first₀ second₀ first second more (d .first-lasts) (d .second-lasts) noted full;
   }
+    where
+      noted : (l : ℕ) → Has places l → Noted k l first second
+      noted l o = let r : 0 + l ≡ l = omega arith in subst (λ (j : ℕ). Noted k j first second) r (d .noted l (record { in-range = omega (arith, inside l o); has = subst⁻¹ (Has places) r o }))
 
   -- Some are in the high one.
-  pub low-and-high : {n : ℕ} {first′ second′ : List ℕ} → n ≡ locations s → half < n → AllLaid s (drop k cs) 0 half low → AllLaid s (drop k cs) half (n - half) high → AllNoting s cs k 0 half first₀ second₀ first′ second′
-      → AllNoting s cs k half (n - half) first′ second′ first second → LayersOf s cs k low high first second
+  pub low-and-high : {n : ℕ} {first′ second′ : List ℕ} → n ≡ locations s → half < n → AllLaid s (drop k cs) 0 (Chosen 0 half places) low → AllLaid s (drop k cs) half (Chosen half (n - half) places) high
+      → AllNoting s cs k 0 (Chosen 0 half places) first₀ second₀ first′ second′ → AllNoting s cs k half (Chosen half (n - half) places) first′ second′ first second → LayersOf s cs k places low high first second
   low-and-high {n} {first′} {second′} e h g i d f = record {
-    low-layer = record { size = a .size; laid = λ m j o. g m j };
-    high-layer = record { size = b .size; laid = λ m j o. i m (omega arith) };
+    low-layer = record { size = a .size; laid = λ m j o. g m (record { in-range = j; has = o }) };
+    high-layer = record { size = b .size; laid = λ m j o. i m (record { in-range = omega (arith, inside (half + m) o); has = o }) };
     low-small = a .small;
     high-small = b .small;
     ground = f .ground;
-    full = full-by s cs k first₀ second₀ first second (λ j o. f .first-lasts j (d .first-lasts j o)) (λ j o. f .second-lasts j (d .second-lasts j o)) (λ m o. side m o (le-or-lt half m)) full;
+    full = full-by s cs k places first₀ second₀ first second more (λ j o. f .first-lasts j (d .first-lasts j o)) (λ j o. f .second-lasts j (d .second-lasts j o)) (λ l o. side l o (le-or-lt half l)) full;
   }
     where
-      side : (m : ℕ) → m < locations s → (half ≤ m) ⊎ (m < half) → Noted k m first second
-      side m o (inl q) = let r : half + (m - half) ≡ m = omega arith in subst (λ (j : ℕ). Noted k j first second) r (f .noted (m - half) (omega arith))
-      side m o (inr q) = λ z u. let r : 0 + m ≡ m = omega arith in let v = subst (λ (j : ℕ). Noted k j first′ second′) r (d .noted m q) z u in (f .first-lasts (placeOf k m z) (v .0), f .second-lasts (placeOf k m z) (v .1))
+      side : (l : ℕ) → Has places l → (half ≤ l) ⊎ (l < half) → Noted k l first second
+      side l o (inl q) = let r : half + (l - half) ≡ l = omega arith in subst (λ (j : ℕ). Noted k j first second) r (f .noted (l - half) (record { in-range = omega (arith, inside l o); has = subst⁻¹ (Has places) r o }))
+      side l o (inr q) = λ z u.
+          let r : 0 + l ≡ l = omega arith in
+          let v = subst (λ (j : ℕ). Noted k j first′ second′) r (d .noted l (record { in-range = q; has = subst⁻¹ (Has places) r o })) z u in
+          (f .first-lasts (placeOf k l z) (v .0), f .second-lasts (placeOf k l z) (v .1))
 
 -- ---- Where all is played
 
@@ -145,26 +157,23 @@ module _ {s low high : List ℕ} where
 
 -- ---- One action less
 
-pub laying-next : {s cs : List ℕ} {k : ℕ} {low high first second : List ℕ} → LayersOf s cs k low high first second → k ≤ length cs → 1 < k → Laying s cs (k - 1) low high
-laying-next {s} {cs} {k} {low} {high} w h some = record {
-  loads = w .ground .loads;
-  more = omega arith;
-  few = w .ground .few;
-  low-layer = subst⁻¹ (λ (n : ℕ). Layer s (drop n cs) 0 low) (let z : k - 1 + 1 ≡ k = omega arith in z) (w .low-layer);
-  high-layer = subst⁻¹ (λ (n : ℕ). Layer s (drop n cs) half high) (let z : k - 1 + 1 ≡ k = omega arith in z) (w .high-layer);
-}
+module _ (k places : ℕ) {s cs : List ℕ} {next : ℕ} {low high first second : List ℕ} (w : LayersOf s cs (k + 1) next low high first second) (gathered : Gathered s (EntersFromAny s (getD cs k 0) places) next) where
+  pub laying-next : k < length cs → Laying s cs k (EntersFromAny s (getD cs k 0) places) low high
+  laying-next h = record {
+    loads = w .ground .loads;
+    more = h;
+    few = w .ground .few;
+    low-layer = layer-of (w .low-layer) (λ n. gathered .right n .1);
+    high-layer = layer-of (w .high-layer) (λ n. gathered .right n .1);
+  }
 
-pub full-next : {s cs : List ℕ} {k : ℕ} {low high first second : List ℕ} → LayersOf s cs k low high first second → 1 < k → Full s cs (k - 1 + 1) first second
-full-next w some j l a b c = w .full j l (omega arith) b c
+  pub full-next : Full s cs (k + 1) (EntersFromAny s (getD cs k 0) places) first second
+  full-next n i l a b c = w .full n i l a (gathered .right i .1 b) c
 
--- Nothing is left to do.
-pub filled : {s cs : List ℕ} {k : ℕ} {low high first second : List ℕ} → LayersOf s cs k low high first second → k ≤ 1 → Filled s cs first second
-filled w h = record { ground = w .ground; full = λ j l a b c. w .full j l (omega arith) b c }
-
-pub ready-low : {s cs : List ℕ} {k : ℕ} {low high first second : List ℕ} → LayersOf s cs k low high first second → Ready 0 low
+pub ready-low : {s cs : List ℕ} {k places : ℕ} {low high first second : List ℕ} → LayersOf s cs k places low high first second → Ready 0 low
 ready-low w = record { in-half = omega arith; size = w .low-layer .size; small = w .low-small }
 
-pub ready-high : {s cs : List ℕ} {k : ℕ} {low high first second : List ℕ} → LayersOf s cs k low high first second → Ready 0 high
+pub ready-high : {s cs : List ℕ} {k places : ℕ} {low high first second : List ℕ} → LayersOf s cs k places low high first second → Ready 0 high
 ready-high w = record { in-half = omega arith; size = w .high-layer .size; small = w .high-small }
 
 -- A table of zeros.
@@ -172,12 +181,27 @@ pub ready-none : (n : ℕ) → n ≡ half * (width * width) → Ready 0 (replica
 ready-none n e = record { in-half = omega arith; size = length-replicate n 0 ∙ e; small = λ i. omega (arith, zero-at n i) }
 
 -- All is played after the last action.
-pub layers-ended : {s cs : List ℕ} {low high first second : List ℕ} → Ended s low high → Ground s cs first second → LayersOf s cs (length cs) low high first second
-layers-ended {s} {cs} {low} {high} d g = record {
-  low-layer = subst⁻¹ (λ (ds : List ℕ). Layer s ds 0 low) (drop-length cs) (d .low-layer);
-  high-layer = subst⁻¹ (λ (ds : List ℕ). Layer s ds half high) (drop-length cs) (d .high-layer);
+pub layers-ended : {s cs : List ℕ} {k places : ℕ} {low high first second : List ℕ} → k ≡ length cs → InSheet s places → Ended s low high → Ground s cs first second → LayersOf s cs k places low high first second
+layers-ended {s} {cs} {k} {places} {low} {high} e inside d g = record {
+  low-layer = subst⁻¹ (λ (ds : List ℕ). Layer s ds (Has places) 0 low) none (layer-of (d .low-layer) inside);
+  high-layer = subst⁻¹ (λ (ds : List ℕ). Layer s ds (Has places) half high) none (layer-of (d .high-layer) inside);
   low-small = d .low-small;
   high-small = d .high-small;
   ground = g;
-  full = λ j l a b c. absurd (omega arith);
+  full = λ n i l a b c. absurd (omega arith);
 }
+  where
+    none : drop k cs ≡ []
+    none = ap (λ (n : ℕ). drop n cs) e ∙ drop-length cs
+
+-- ---- All actions but the first
+
+pub filled : {s cs : List ℕ} {places : ℕ} {low high first second : List ℕ} → LayersOf s cs 1 places low high first second → Filled s cs places first second
+filled w = record { ground = w .ground; full = w .full }
+
+pub noted-from : (s cs : List ℕ) (places i : ℕ) (first second : List ℕ) → Gathered s (EntersFrom s (getD cs 0 0) i) places → Filled s cs places first second → NotedFrom s cs i first second
+noted-from s cs places i first second gathered w zero l some soon way = absurd (omega arith)
+noted-from s [] places i first second gathered w (suc k) l some soon way = absurd way
+noted-from s (c ∷ cs) places i first second gathered w (suc k) l some soon way =
+    let e : 1 + k ≡ suc k = omega arith in
+    subst (λ (j : ℕ). Noted j l first second) e (w .full k (way .0) l (omega arith) (gathered .right (way .0) .1 (way .1)) (way .2))

@@ -1,6 +1,6 @@
 -- All transitions of a location, and its costs.
 -- Assumes nothing.
-use mathlib.Core.Path.{_≡_, refl, ap, _∙_, subst⁻¹}
+use mathlib.Core.Path.{_≡_, refl, ap, sym, _∙_, subst⁻¹}
 use mathlib.Core.Bool.{Bool, true, false, cond}
 use mathlib.Core.List.{List}
 use mathlib.Core.Logic.{_⊎_, inl, inr, ⊎-elim, _↔_}
@@ -11,17 +11,20 @@ use lib.ListN.{length, getD, drop, set, length-drop, length-set}
 use lib.Seq.{getD-set-same, getD-set-other}
 use borrow.Author.Tests.{eqb-true, eqb-false}
 use Rattle.enforcement.specs.Automaton.{Transition, bit, enabled, locations, transitionAt, word}
-use Rattle.enforcement.specs.Loading.{Fits}
+use Rattle.enforcement.specs.Loading.{Loads, Fits}
 use Rattle.enforcement.specs.TimedWord.{fire}
 use Rattle.enforcement.specs.Model.{top, width}
+use Rattle.enforcement.proofs.Loading.{header}
 use Rattle.enforcement.proofs.Tests.{true-false}
 use Rattle.retimer.specs.Costs.{never, costAt, configuration, justReset, placeOf, Ground, Costed, AfterAsked}
-use Rattle.retimer.specs.Layers.{half, cellOf, cell, Small, Layer, Laid, AllTicked, Now, NowOne, BoxLowered, Laying, Ready, Cleared, Took, AtOnce, LocationWritten, AllWritten, AllLaid, Lasts, Noting}
-use Rattle.retimer.proofs.Left.{Left, left-begun, left-inside, left-fits, left-next, left-none}
+use Rattle.retimer.specs.Targets.{Has, Enters, EntersFrom}
+use Rattle.retimer.specs.Layers.{half, cellOf, cell, Small, Layer, Laid, Range, Stretch, Chosen, AllTicked, Now, NowOne, BoxLowered, Laying, Ready, Cleared, Took, AtOnce, LocationWritten, AllWritten, AllLaid, Lasts, Noting}
+use Rattle.retimer.proofs.Left.{Left, left-whole, left-found, left-begun, left-inside, left-fits, left-next, left-none}
 use Rattle.retimer.proofs.Prospects.{left-some}
 use Rattle.retimer.proofs.CostLaws.{le-or-lt}
 use Rattle.retimer.proofs.Memos.{place-inside, noted-first, noted-second}
 use Rattle.retimer.proofs.Laying.{laid}
+use Rattle.retimer.proofs.LayingRows.{chosen-last, chosen-before}
 
 -- ---- One transition
 
@@ -34,9 +37,9 @@ kept-fits true z h = omega arith
 kept-fits false z h = h
 
 -- One for the action, with the costs of its target.
-pub took-box : {s after : List ℕ} {c : ℕ} {v : Transition} {m t h : ℕ} {other table table′ : List ℕ} → Small table → v .action ≡ c → Layer s after h other → h + t ≡ v .target → t < half → Fits s v → BoxLowered v other t m table table′
+pub took-box : {s after : List ℕ} {c : ℕ} {v : Transition} {m t h : ℕ} {other table table′ : List ℕ} → Small table → v .action ≡ c → Layer s after (λ (n : ℕ). Enters c n v) h other → h + t ≡ v .target → t < half → BoxLowered v other t m table table′
     → Took (λ x y w. Now s c after w x y v) m table table′
-took-box {s} {after} {c} {v} {m} {t} {h} {other} {table} {table′} small for-action layer target in-half fits box = record {
+took-box {s} {after} {c} {v} {m} {t} {h} {other} {table} {table′} small for-action layer target in-half box = record {
   others = box .others;
   small = λ i. omega (arith, box .lesser i, small i);
   takes = λ x y k l w n. go x y k l w (enabled v x y) refl;
@@ -44,7 +47,7 @@ took-box {s} {after} {c} {v} {m} {t} {h} {other} {table} {table′} small for-ac
   where
     there : (x y : ℕ) → x ≤ top → y ≤ top → cell other t (cond (bit (v .resets) 0) 0 x) (cond (bit (v .resets) 1) 0 y) ≡ costAt s after (fire v (configuration 0 x y))
     there x y k l =
-        layer .laid t in-half (omega (arith, fits .target-fits)) (cond (bit (v .resets) 0) 0 x) (cond (bit (v .resets) 1) 0 y) (kept-fits (bit (v .resets) 0) x k) (kept-fits (bit (v .resets) 1) y l)
+        layer .laid t in-half (for-action, sym target) (cond (bit (v .resets) 0) 0 x) (cond (bit (v .resets) 1) 0 y) (kept-fits (bit (v .resets) 0) x k) (kept-fits (bit (v .resets) 1) y l)
         ∙ ap (λ (n : ℕ). costAt s after (configuration n (cond (bit (v .resets) 0) 0 x) (cond (bit (v .resets) 1) 0 y))) target
 
     go : (x y : ℕ) → x ≤ top → y ≤ top → (w : ℕ) (b : Bool) → enabled v x y ≡ b → (cell table′ m x y ≤ w) ↔ ((cell table m x y ≤ w) ⊎ Now s c after w x y v)
@@ -113,12 +116,20 @@ module _ {m c : ℕ} {table : List ℕ} (b : Ready m table) (c-small : c ≤ nev
 
 -- ---- All transitions
 
+-- Costs of more locations are costs of fewer.
+pub layer-of : {s cs : List ℕ} {C D : ℕ → Type 0} {h : ℕ} {table : List ℕ} → Layer s cs C h table → ((n : ℕ) → D n → C n) → Layer s cs D h table
+layer-of a f = record { size = a .size; laid = λ m i o. a .laid m i (f _ o) }
+
+pub laying-of : {s cs : List ℕ} {k : ℕ} {C D : ℕ → Type 0} {low high : List ℕ} → Laying s cs k C low high → ((n : ℕ) → D n → C n) → Laying s cs k D low high
+laying-of a f = record { loads = a .loads; more = a .more; few = a .few; low-layer = layer-of (a .low-layer) f; high-layer = layer-of (a .high-layer) f }
+
 -- The transitions before p were looked at.
 pub record InLay (s cs : List ℕ) (k l m end : ℕ) (table₀ table : List ℕ) (p : ℕ) : Type 0 where
   pub same-length : length table ≡ length table₀
   pub same : (n x y : ℕ) → (n ≡ m → ⊥) → x ≤ top → y ≤ top → cell table n x y ≡ cell table₀ n x y
   pub small : Small table
   pub left : (x y : ℕ) → x ≤ top → y ≤ top → (w : ℕ) → w < never → Left s (NowOne s (getD cs k 0) (drop (k + 1) cs) l x y w) (cell table m x y ≤ w) (Now s (getD cs k 0) (drop (k + 1) cs) w x y) p end
+  pub targets : (n : ℕ) → Left s (EntersFrom s (getD cs k 0) l n) (EntersFrom s (getD cs k 0) l n) (Enters (getD cs k 0) n) p end
 
 pub ready-cleared : {m : ℕ} {table table′ : List ℕ} → Ready m table → Cleared m never table table′ → Ready m table′
 ready-cleared b d = record { in-half = b .in-half; size = d .others .same-length ∙ b .size; small = d .small }
@@ -126,7 +137,7 @@ ready-cleared b d = record { in-half = b .in-half; size = d .others .same-length
 pub written-cleared : {s : List ℕ} {c : ℕ} {cs : List ℕ} {l m : ℕ} {table table′ next : List ℕ} → Cleared m never table table′ → LocationWritten s c cs l m table′ next → LocationWritten s c cs l m table next
 written-cleared d g = record { others = record { same-length = g .others .same-length ∙ d .others .same-length; same = λ n x y f i j. g .others .same n x y f i j ∙ d .others .same n x y f i j }; small = g .small; at-once = g .at-once }
 
-module _ {s cs : List ℕ} {k l : ℕ} {low high : List ℕ} (a : Laying s cs k low high) (in-sheet : l < locations s) {m : ℕ} {table₀ : List ℕ} (b : Ready m table₀) where
+module _ {s cs : List ℕ} {k l : ℕ} {low high : List ℕ} (a : Laying s cs k (EntersFrom s (getD cs k 0) l) low high) (in-sheet : l < locations s) {m : ℕ} {table₀ : List ℕ} (b : Ready m table₀) where
   pub lay-begun : {table : List ℕ} {v n : ℕ} → Cleared m never table table₀ → v ≡ word s (6 + 4 * l) → n ≡ word s (6 + 4 * l + 2) → InLay s cs k l m (v + n) table₀ table₀ v
   lay-begun {table} {v} {n} d e f = record {
     same-length = refl;
@@ -134,6 +145,7 @@ module _ {s cs : List ℕ} {k l : ℕ} {low high : List ℕ} (a : Laying s cs k 
     small = d .small;
     left = λ x y h i w o.
         left-begun s (NowOne s (getD cs k 0) (drop (k + 1) cs) l x y w) (cell table₀ m x y ≤ w) (Now s (getD cs k 0) (drop (k + 1) cs) w x y) l l v n (a .loads) in-sheet refl e f (λ g. omega (arith, d .clear x y h i)) (λ g. g, λ g. g);
+    targets = λ i. left-whole s (EntersFrom s (getD cs k 0) l i) (EntersFrom s (getD cs k 0) l i) (Enters (getD cs k 0) i) l l v n (a .loads) in-sheet refl e f (inl, ⊎-elim (λ g. g) (λ g. g));
   }
 
   module _ {end p : ℕ} {table : List ℕ} (h : InLay s cs k l m end table₀ table p) where
@@ -142,6 +154,9 @@ module _ {s cs : List ℕ} {k l : ℕ} {low high : List ℕ} (a : Laying s cs k 
 
     pub lay-fits : p < end → Fits s (transitionAt s p)
     lay-fits q = left-fits (h .left 0 0 (omega arith) (omega arith) 0 (omega arith)) q
+
+    pub lay-rule : p < end → Laying s cs k (λ (n : ℕ). Enters (getD cs k 0) n (transitionAt s p)) low high
+    lay-rule q = laying-of a (λ n. left-found (h .targets n) q)
 
     pub lay-ready : Ready m table
     lay-ready = record { in-half = b .in-half; size = h .same-length ∙ b .size; small = h .small }
@@ -152,6 +167,7 @@ module _ {s cs : List ℕ} {k l : ℕ} {low high : List ℕ} (a : Laying s cs k 
       same = λ n x y f i j. d .others .same n x y f i j ∙ h .same n x y f i j;
       small = d .small;
       left = λ x y i j w o. left-next (h .left x y i j w o) q (d .takes x y i j w o);
+      targets = λ n. left-next (h .targets n) q (inl, ⊎-elim (λ g. g) (left-found (h .targets n) q));
     }
 
     pub lay-done : end ≤ p → LocationWritten s (getD cs k 0) (drop (k + 1) cs) l m table₀ table
@@ -159,22 +175,26 @@ module _ {s cs : List ℕ} {k l : ℕ} {low high : List ℕ} (a : Laying s cs k 
 
 -- ---- All locations of a table
 
-pub writes-begun : {s : List ℕ} {c : ℕ} {cs : List ℕ} {h : ℕ} {table : List ℕ} → Small table → AllWritten s c cs h 0 table table
-writes-begun small = record { same-length = refl; small = small; at-once = λ m g. absurd (omega arith) }
+pub range-of : {s : List ℕ} {h n : ℕ} → Loads s → Stretch s h n → Range h n
+range-of {s} loads a = record { in-half = a .in-half; in-count = let i = header s loads .locations-fit in omega (arith, a .in-sheet) }
 
-pub writes-next : {s : List ℕ} {c : ℕ} {cs : List ℕ} {h m : ℕ} {table table′ next : List ℕ} → AllWritten s c cs h m table table′ → LocationWritten s c cs (h + m) m table′ next → AllWritten s c cs h (m + 1) table next
-writes-next {s} {c} {cs} {h} {m} {table} {table′} {next} w d = record { same-length = d .others .same-length ∙ w .same-length; small = d .small; at-once = λ n g. go n g (eqb n m) refl }
-  where
-    go : (n : ℕ) → n < m + 1 → (b : Bool) → eqb n m ≡ b → AtOnce s c cs (h + n) n next
-    go n g true e = subst⁻¹ (λ (j : ℕ). AtOnce s c cs (h + j) j next) (eqb-true n m e) (d .at-once)
-    go n g false e =
-        let f : n ≡ m → ⊥ = eqb-false n m e in
-        let o : n < m = omega arith in
-        λ x y i j. subst⁻¹ (λ (v : ℕ). (w : ℕ) → w < never → (v ≤ w) ↔ NowOne s c cs (h + n) x y w) (d .others .same n x y f i j) (w .at-once n o x y i j)
+pub writes-begun : {s : List ℕ} {c : ℕ} {cs : List ℕ} {h i places : ℕ} {table : List ℕ} → Small table → AllWritten s c cs h (Chosen i 0 places) table table
+writes-begun small = record { same-length = refl; small = small; at-once = λ m a. absurd (omega (arith, a .in-range)) }
+
+module _ {s : List ℕ} {c : ℕ} {cs : List ℕ} {h places m : ℕ} {table table′ : List ℕ} (w : AllWritten s c cs h (Chosen h m places) table table′) where
+  pub writes-passed : (Has places (h + m) → ⊥) → AllWritten s c cs h (Chosen h (m + 1) places) table table′
+  writes-passed f = record { same-length = w .same-length; small = w .small; at-once = λ n a. w .at-once n (chosen-before f a) }
+
+  pub writes-next : {next : List ℕ} → LocationWritten s c cs (h + m) m table′ next → AllWritten s c cs h (Chosen h (m + 1) places) table next
+  writes-next {next} d = record { same-length = d .others .same-length ∙ w .same-length; small = d .small; at-once = λ n a. go n (chosen-last a) }
+    where
+      go : (n : ℕ) → (n ≡ m) ⊎ (Chosen h m places n × (n ≡ m → ⊥)) → AtOnce s c cs (h + n) n next
+      go n (inl e) = subst⁻¹ (λ (j : ℕ). AtOnce s c cs (h + j) j next) e (d .at-once)
+      go n (inr o) = λ x y i j. subst⁻¹ (λ (v : ℕ). (w : ℕ) → w < never → (v ≤ w) ↔ NowOne s c cs (h + n) x y w) (d .others .same n x y (o .1) i j) (w .at-once n (o .0) x y i j)
 
 -- After the ticks they have their costs.
-pub all-laid : {s cs : List ℕ} {k h n : ℕ} {low high table₀ table table′ : List ℕ} → Laying s cs k low high → AllWritten s (getD cs k 0) (drop (k + 1) cs) h n table₀ table → AllTicked n table table′ → AllLaid s (drop k cs) h n table′
-all-laid {s} {cs} {k} {h} {n} {low} {high} {table₀} {table} {table′} a w d m g = subst⁻¹ (λ (ds : List ℕ). Laid s ds (h + m) m table′) (left-some cs k (a .more))
+pub all-laid : {s cs : List ℕ} {k h : ℕ} {C D : ℕ → Type 0} {low high table₀ table table′ : List ℕ} → Laying s cs k D low high → AllWritten s (getD cs k 0) (drop (k + 1) cs) h C table₀ table → AllTicked C table table′ → AllLaid s (drop k cs) h C table′
+all-laid {s} {cs} {k} {h} {C} {D} {low} {high} {table₀} {table} {table′} a w d m g = subst⁻¹ (λ (ds : List ℕ). Laid s ds (h + m) m table′) (left-some cs k (a .more))
     (laid s (a .loads) (getD cs k 0) (drop (k + 1) cs) (h + m) m table table′ (λ x y i j. d .ticked m x y g i j) (w .at-once m g) (omega (arith, length-drop (k + 1) cs, a .few, a .more)) (w .small))
 
 -- ---- Notes

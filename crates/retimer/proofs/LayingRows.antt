@@ -12,8 +12,9 @@ use lib.Seq.{getD-set-same, getD-set-other}
 use borrow.Author.Tests.{eqb-true, eqb-false}
 use Rattle.enforcement.specs.Model.{top, width}
 use Rattle.retimer.specs.Costs.{never}
+use Rattle.retimer.specs.Targets.{Has}
 use Rattle.retimer.proofs.CostLaws.{le-or-lt}
-use Rattle.retimer.specs.Layers.{cellOf, cell, tick, Small, RowAsked, RowTicked, Ticked, RowsTicked, AllTicked, RowLowered}
+use Rattle.retimer.specs.Layers.{cellOf, cell, tick, Small, RowAsked, RowTicked, Ticked, Chosen, RowsTicked, AllTicked, RowLowered}
 
 -- ---- By other costs
 
@@ -147,6 +148,22 @@ module _ {here : ℕ} {table : List ℕ} (a : RowAsked here table) where
             let d = w .done i (omega arith) k in
             omega arith
 
+-- ---- Chosen locations
+
+module _ {h places m n : ℕ} where
+  pub chosen-wider : Chosen h m places n → Chosen h (m + 1) places n
+  chosen-wider a = record { in-range = omega (arith, a .in-range); has = a .has }
+
+  pub chosen-last : Chosen h (m + 1) places n → (n ≡ m) ⊎ (Chosen h m places n × (n ≡ m → ⊥))
+  chosen-last a = by (eqb n m) refl
+    where
+      by : (b : Bool) → eqb n m ≡ b → (n ≡ m) ⊎ (Chosen h m places n × (n ≡ m → ⊥))
+      by true e = inl (eqb-true n m e)
+      by false e = let f : n ≡ m → ⊥ = eqb-false n m e in inr (record { in-range = omega (arith, a .in-range); has = a .has }, f)
+
+  pub chosen-before : (Has places (h + m) → ⊥) → Chosen h (m + 1) places n → Chosen h m places n
+  chosen-before f a = ⊎-elim (λ e. absurd (f (subst (λ (j : ℕ). Has places (h + j)) e (a .has)))) (λ o. o .0) (chosen-last a)
+
 -- ---- One row of all locations
 
 row-small : {here above : ℕ} {table table′ : List ℕ} → RowTicked here above table table′ → Small table → Small table′
@@ -171,52 +188,55 @@ row-others {m} {y} r y-fits n x z f k l = r .same (cellOf n x z) (away (le-or-lt
     away (inl a) (inl b) (inr c) (inr d) = inr (omega arith)
     away (inl a) (inl b) (inl c) (inr d) = let g : z < y = omega arith in inl (omega arith)
 
-pub rows-begun : {y : ℕ} {table : List ℕ} → Small table → RowsTicked 0 y table table
-rows-begun small = record { same-length = refl; small = small; ticked = λ m x h k. absurd (omega arith); same = λ m x z f k l. refl }
+pub rows-begun : {h places y : ℕ} {table : List ℕ} → Small table → RowsTicked (Chosen h 0 places) y table table
+rows-begun small = record { same-length = refl; small = small; ticked = λ m x a k. absurd (omega (arith, a .in-range)); same = λ m x z f k l. refl }
 
-pub rows-next : {m y : ℕ} {table table′ next : List ℕ} → RowsTicked m y table table′ → y ≤ top → RowTicked (cellOf m 0 y) (cellOf m 0 (tick y)) table′ next → RowsTicked (m + 1) y table next
-rows-next {m} {y} {table} {table′} {next} w y-fits r = record {
-  same-length = r .same-length ∙ w .same-length;
-  small = row-small r (w .small);
-  ticked = λ n x h k. go n x h k (eqb n m) refl;
-  same = λ n x z f k l. row-others r y-fits n x z (⊎-elim (λ g. inl (λ e. omega arith)) inr f) k l ∙ w .same n x z (⊎-elim (λ g. inl (omega arith)) inr f) k l;
-}
-  where
-    own : (x : ℕ) → x ≤ top → Ticked m x y table next
-    own x k =
-        let a : getD next (cellOf m 0 y + x) 0 ≡ cell next m x y = ap (λ (j : ℕ). getD next j 0) (let q : cellOf m 0 y + x ≡ cellOf m x y = omega arith in q) in
-        let b : getD next (cellOf m 0 (tick y) + tick x) 0 ≡ cell next m (tick x) (tick y) = ap (λ (j : ℕ). getD next j 0) (let q : cellOf m 0 (tick y) + tick x ≡ cellOf m (tick x) (tick y) = omega arith in q) in
-        let d : getD table′ (cellOf m 0 y + x) 0 ≡ cell table m x y = ap (λ (j : ℕ). getD table′ j 0) (let q : cellOf m 0 y + x ≡ cellOf m x y = omega arith in q) ∙ w .same m x y (inl (omega arith)) k y-fits in
-        omega (arith, r .ticked x k)
+module _ {h places m y : ℕ} {table table′ : List ℕ} (w : RowsTicked (Chosen h m places) y table table′) where
+  pub rows-passed : (Has places (h + m) → ⊥) → RowsTicked (Chosen h (m + 1) places) y table table′
+  rows-passed f = record { same-length = w .same-length; small = w .small; ticked = λ n x a k. w .ticked n x (chosen-before f a) k; same = λ n x z g k l. w .same n x z (⊎-elim (λ o. inl (λ a. o (chosen-wider a))) inr g) k l }
 
-    go : (n x : ℕ) → n < m + 1 → x ≤ top → (b : Bool) → eqb n m ≡ b → Ticked n x y table next
-    go n x h k true e = subst⁻¹ (λ (j : ℕ). Ticked j x y table next) (eqb-true n m e) (own x k)
-    go n x h k false e =
-        let f : n ≡ m → ⊥ = eqb-false n m e in
-        let a = row-others r y-fits n x y (inl f) k y-fits in
-        let b = row-others r y-fits n (tick x) (tick y) (inl f) (omega arith) (omega arith) in
-        let d = w .ticked n x (let g : n < m = omega arith in g) k in
-        omega arith
+  pub rows-next : {next : List ℕ} → Has places (h + m) → y ≤ top → RowTicked (cellOf m 0 y) (cellOf m 0 (tick y)) table′ next → RowsTicked (Chosen h (m + 1) places) y table next
+  rows-next {next} has y-fits r = record {
+    same-length = r .same-length ∙ w .same-length;
+    small = row-small r (w .small);
+    ticked = λ n x a k. go n x k (chosen-last a);
+    same = λ n x z f k l. row-others r y-fits n x z (⊎-elim (λ g. inl (λ e. g (record { in-range = omega arith; has = subst⁻¹ (λ (j : ℕ). Has places (h + j)) e has }))) inr f) k l ∙ w .same n x z (⊎-elim (λ g. inl (λ a. g (chosen-wider a))) inr f) k l;
+  }
+    where
+      own : (x : ℕ) → x ≤ top → Ticked m x y table next
+      own x k =
+          let a : getD next (cellOf m 0 y + x) 0 ≡ cell next m x y = ap (λ (j : ℕ). getD next j 0) (let q : cellOf m 0 y + x ≡ cellOf m x y = omega arith in q) in
+          let b : getD next (cellOf m 0 (tick y) + tick x) 0 ≡ cell next m (tick x) (tick y) = ap (λ (j : ℕ). getD next j 0) (let q : cellOf m 0 (tick y) + tick x ≡ cellOf m (tick x) (tick y) = omega arith in q) in
+          let d : getD table′ (cellOf m 0 y + x) 0 ≡ cell table m x y = ap (λ (j : ℕ). getD table′ j 0) (let q : cellOf m 0 y + x ≡ cellOf m x y = omega arith in q) ∙ w .same m x y (inl (λ o. omega (arith, o .in-range))) k y-fits in
+          omega (arith, r .ticked x k)
+
+      go : (n x : ℕ) → x ≤ top → (n ≡ m) ⊎ (Chosen h m places n × (n ≡ m → ⊥)) → Ticked n x y table next
+      go n x k (inl e) = subst⁻¹ (λ (j : ℕ). Ticked j x y table next) e (own x k)
+      go n x k (inr o) =
+          let a = row-others r y-fits n x y (inl (o .1)) k y-fits in
+          let b = row-others r y-fits n (tick x) (tick y) (inl (o .1)) (omega arith) (omega arith) in
+          let d = w .ticked n x (o .0) k in
+          omega arith
 
 -- ---- All rows
 
 -- The rows from y on are done.
-pub record InTicks (n y : ℕ) (table table′ : List ℕ) : Type 0 where
+pub record InTicks (C : ℕ → Type 0) (y : ℕ) (table table′ : List ℕ) : Type 0 where
   pub y-fits : y ≤ width
   pub same-length : length table′ ≡ length table
   pub small : Small table′
-  pub done : (m x z : ℕ) → m < n → x ≤ top → y ≤ z → z ≤ top → Ticked m x z table table′
-  pub rest : (m x z : ℕ) → (n ≤ m) ⊎ (z < y) → x ≤ top → z ≤ top → cell table′ m x z ≡ cell table m x z
+  pub done : (m x z : ℕ) → C m → x ≤ top → y ≤ z → z ≤ top → Ticked m x z table table′
+  pub rest : (m x z : ℕ) → (C m → ⊥) ⊎ (z < y) → x ≤ top → z ≤ top → cell table′ m x z ≡ cell table m x z
 
-module _ {n : ℕ} {table : List ℕ} where
-  pub ticks-begun : Small table → InTicks n width table table
+module _ {C : ℕ → Type 0} {table : List ℕ} where
+  pub ticks-begun : Small table → InTicks C width table table
   ticks-begun small = record { y-fits = omega arith; same-length = refl; small = small; done = λ m x z g h k l. absurd (omega arith); rest = λ m x z f h k. refl }
 
-  module _ {y : ℕ} {table′ : List ℕ} (w : InTicks n y table table′) where
-    pub ticks-done : y ≤ 0 → AllTicked n table table′
+  module _ {y : ℕ} {table′ : List ℕ} (w : InTicks C y table table′) where
+    pub ticks-done : y ≤ 0 → AllTicked C table table′
     ticks-done h = record { same-length = w .same-length; small = w .small; ticked = λ m x z g k l. w .done m x z g k (omega arith) l; same = λ m x z g k l. w .rest m x z (inl g) k l }
 
-    pub ticks-next : {next : List ℕ} → 0 < y → RowsTicked n (y - 1) table′ next → InTicks n (y - 1) table next
+    pub ticks-next : {next : List ℕ} → 0 < y → RowsTicked C (y - 1) table′ next → InTicks C (y - 1) table next
     ticks-next {next} some r = record {
       y-fits = let f = w .y-fits in omega arith;
       same-length = r .same-length ∙ w .same-length;
@@ -225,7 +245,7 @@ module _ {n : ℕ} {table : List ℕ} where
       rest = λ m x z f h k. r .same m x z (⊎-elim inl (λ g. inr (λ e. omega arith)) f) h k ∙ w .rest m x z (⊎-elim inl (λ g. inr (omega arith)) f) h k;
     }
       where
-        go : (m x z : ℕ) → m < n → x ≤ top → y - 1 ≤ z → z ≤ top → (b : Bool) → eqb z (y - 1) ≡ b → Ticked m x z table next
+        go : (m x z : ℕ) → C m → x ≤ top → y - 1 ≤ z → z ≤ top → (b : Bool) → eqb z (y - 1) ≡ b → Ticked m x z table next
         go m x z g h k l true e =
             let f : z ≡ y - 1 = eqb-true z (y - 1) e in
             let a : Ticked m x z table′ next = subst⁻¹ (λ (j : ℕ). Ticked m x j table′ next) f (r .ticked m x g h) in

@@ -13,6 +13,7 @@ pub mod Played
 pub mod Intervals
 pub mod Ways
 pub mod CostLaws
+pub mod Entering
 pub mod Laying
 pub mod LayingRows
 pub mod LayingBoxes

@@ -11,6 +11,7 @@ use Rattle.enforcement.specs.TimedWord.{fire}
 use Rattle.enforcement.specs.Loading.{Loads}
 use Rattle.enforcement.specs.Model.{top, width}
 use Rattle.retimer.specs.Steps.{One}
+use Rattle.retimer.specs.Targets.{Has, EntersAfter}
 use Rattle.retimer.specs.Costs.{never, costAt, configuration, placeOf, Ground}
 
 -- The locations of a table.
@@ -62,28 +63,38 @@ pub record RowTicked (here above : ℕ) (table table′ : List ℕ) : Type 0 whe
 abbrev pub Ticked : ℕ → ℕ → ℕ → List ℕ → List ℕ → Type 0
 Ticked m x y table table′ = cell table′ m x y ≡ min (cell table m x y) (suc (cell table′ m (tick x) (tick y)))
 
--- The row y of each location before n has its costs so, and all else is as before.
-pub record RowsTicked (n y : ℕ) (table table′ : List ℕ) : Type 0 where
+-- There can be n locations from h on, and a table can hold them.
+pub record Range (h n : ℕ) : Type 0 where
+  pub in-half : n ≤ half
+  pub in-count : h + n ≤ maxCount
+
+-- Of n locations from h on, the one at the place m of their table is chosen: it is in a set.
+pub record Chosen (h n places m : ℕ) : Type 0 where
+  pub in-range : m < n
+  pub has : Has places (h + m)
+
+-- The row y of each location with C has its costs so, and all else is as before.
+pub record RowsTicked (C : ℕ → Type 0) (y : ℕ) (table table′ : List ℕ) : Type 0 where
   pub same-length : length table′ ≡ length table
   pub small : Small table′
-  pub ticked : (m x : ℕ) → m < n → x ≤ top → Ticked m x y table table′
-  pub same : (m x z : ℕ) → (n ≤ m) ⊎ (z ≡ y → ⊥) → x ≤ top → z ≤ top → cell table′ m x z ≡ cell table m x z
+  pub ticked : (m x : ℕ) → C m → x ≤ top → Ticked m x y table table′
+  pub same : (m x z : ℕ) → (C m → ⊥) ⊎ (z ≡ y → ⊥) → x ≤ top → z ≤ top → cell table′ m x z ≡ cell table m x z
 
 -- The same of all rows.
-pub record AllTicked (n : ℕ) (table table′ : List ℕ) : Type 0 where
+pub record AllTicked (C : ℕ → Type 0) (table table′ : List ℕ) : Type 0 where
   pub same-length : length table′ ≡ length table
   pub small : Small table′
-  pub ticked : (m x y : ℕ) → m < n → x ≤ top → y ≤ top → Ticked m x y table table′
-  pub same : (m x y : ℕ) → n ≤ m → x ≤ top → y ≤ top → cell table′ m x y ≡ cell table m x y
+  pub ticked : (m x y : ℕ) → C m → x ≤ top → y ≤ top → Ticked m x y table table′
+  pub same : (m x y : ℕ) → (C m → ⊥) → x ≤ top → y ≤ top → cell table′ m x y ≡ cell table m x y
 
 -- A table has, at its place m, the costs of the location l with the actions cs left.
 abbrev pub Laid : Bytes → List ℕ → ℕ → ℕ → List ℕ → Type 0
 Laid s cs l m table = (x y : ℕ) → x ≤ top → y ≤ top → cell table m x y ≡ costAt s cs (configuration l x y)
 
--- The costs with the actions cs left, of the locations from h on.
-pub record Layer (s : Bytes) (cs : List ℕ) (h : ℕ) (table : List ℕ) : Type 0 where
+-- The costs with the actions cs left, of those locations from h on with C.
+pub record Layer (s : Bytes) (cs : List ℕ) (C : ℕ → Type 0) (h : ℕ) (table : List ℕ) : Type 0 where
   pub size : length table ≡ half * (width * width)
-  pub laid : (m : ℕ) → m < half → h + m < locations s → Laid s cs (h + m) m table
+  pub laid : (m : ℕ) → m < half → C (h + m) → Laid s cs (h + m) m table
 
 -- The places of a row up to the column `end` lie in a table.
 pub record LineAsked (to end : ℕ) (table : List ℕ) : Type 0 where
@@ -105,13 +116,13 @@ pub record BoxLowered (v : Transition) (other : List ℕ) (t m : ℕ) (table tab
   pub inside : (x y : ℕ) → x ≤ top → y ≤ top → enabled v x y ≡ true → cell table′ m x y ≡ min (cell table m x y) (cell other t (cond (bit (v .resets) 0) 0 x) (cond (bit (v .resets) 1) 0 y))
   pub outside : (x y : ℕ) → x ≤ top → y ≤ top → enabled v x y ≡ false → cell table′ m x y ≡ cell table m x y
 
--- The action k is next, and the tables have the costs of all locations after it.
-pub record Laying (s cs : List ℕ) (k : ℕ) (low high : List ℕ) : Type 0 where
+-- The action k is next, and the tables have the costs of the locations with C after it.
+pub record Laying (s cs : List ℕ) (k : ℕ) (C : ℕ → Type 0) (low high : List ℕ) : Type 0 where
   pub loads : Loads s
   pub more : k < length cs
   pub few : length cs ≤ maxCount + 1
-  pub low-layer : Layer s (drop (k + 1) cs) 0 low
-  pub high-layer : Layer s (drop (k + 1) cs) half high
+  pub low-layer : Layer s (drop (k + 1) cs) C 0 low
+  pub high-layer : Layer s (drop (k + 1) cs) C half high
 
 -- A table that is to have the costs of one more location.
 pub record Ready (m : ℕ) (table : List ℕ) : Type 0 where
@@ -147,20 +158,20 @@ pub record LocationWritten (s : Bytes) (c : ℕ) (cs : List ℕ) (l m : ℕ) (ta
   pub small : Small table′
   pub at-once : AtOnce s c cs l m table′
 
--- There are n locations from h on, which a table can hold.
+-- There are n locations from h on, and a table can hold them.
 pub record Stretch (s : Bytes) (h n : ℕ) : Type 0 where
   pub in-half : n ≤ half
   pub in-sheet : h + n ≤ locations s
 
--- A table has got it for n locations from h on.
-pub record AllWritten (s : Bytes) (c : ℕ) (cs : List ℕ) (h n : ℕ) (table table′ : List ℕ) : Type 0 where
+-- A table has got it for those locations from h on that are at places with C.
+pub record AllWritten (s : Bytes) (c : ℕ) (cs : List ℕ) (h : ℕ) (C : ℕ → Type 0) (table table′ : List ℕ) : Type 0 where
   pub same-length : length table′ ≡ length table
   pub small : Small table′
-  pub at-once : (m : ℕ) → m < n → AtOnce s c cs (h + m) m table′
+  pub at-once : (m : ℕ) → C m → AtOnce s c cs (h + m) m table′
 
--- A table has the costs of n locations from h on.
-abbrev pub AllLaid : Bytes → List ℕ → ℕ → ℕ → List ℕ → Type 0
-AllLaid s cs h n table = (m : ℕ) → m < n → Laid s cs (h + m) m table
+-- A table has the costs of those locations.
+abbrev pub AllLaid : Bytes → List ℕ → ℕ → (ℕ → Type 0) → List ℕ → Type 0
+AllLaid s cs h C table = (m : ℕ) → C m → Laid s cs (h + m) m table
 
 -- The costs of the location l with the actions cs left stand in its table; the other table is as before.
 pub record OneLaid (s cs : List ℕ) (l : ℕ) (low high low′ high′ : List ℕ) : Type 0 where
@@ -171,9 +182,13 @@ pub record OneLaid (s cs : List ℕ) (l : ℕ) (low high low′ high′ : List �
 abbrev pub Noted : ℕ → ℕ → List ℕ → List ℕ → Type 0
 Noted j l first second = (z : ℕ) → z ≤ top → (0 < getD first (placeOf j l z) 0) × (0 < getD second (placeOf j l z) 0)
 
--- They have all entries from the action k on.
-abbrev pub Full : Bytes → List ℕ → ℕ → List ℕ → List ℕ → Type 0
-Full s cs k first second = (j l : ℕ) → k ≤ j → j < length cs → l < locations s → Noted j l first second
+-- They have the entries for all actions from k on, each with all locations that can be entered by then from one with C.
+abbrev pub Full : Bytes → List ℕ → ℕ → (ℕ → Type 0) → List ℕ → List ℕ → Type 0
+Full s cs k C first second = (n i l : ℕ) → k + n < length cs → C i → EntersAfter s (drop k cs) n i l → Noted (k + n) l first second
+
+-- They have the entries for all actions but the first, each with all locations that can be entered by then from i.
+abbrev pub NotedFrom : Bytes → List ℕ → ℕ → List ℕ → List ℕ → Type 0
+NotedFrom s cs i first second = (k l : ℕ) → 1 ≤ k → k < length cs → EntersAfter s cs k i l → Noted k l first second
 
 -- No entry is lost.
 abbrev pub Lasts : List ℕ → List ℕ → Type 0
@@ -188,32 +203,32 @@ pub record Noting (s cs : List ℕ) (k l : ℕ) (first second first′ second′
   pub first-lasts : Lasts first first′
   pub second-lasts : Lasts second second′
 
--- The same with the entries of n locations from h on.
-pub record AllNoting (s cs : List ℕ) (k h n : ℕ) (first second first′ second′ : List ℕ) : Type 0 where
+-- The same with the entries of those locations from h on that are at places with C.
+pub record AllNoting (s cs : List ℕ) (k h : ℕ) (C : ℕ → Type 0) (first second first′ second′ : List ℕ) : Type 0 where
   pub first-kept : length first′ ≡ length first
   pub second-kept : length second′ ≡ length second
   pub ground : Ground s cs first′ second′
-  pub noted : (m : ℕ) → m < n → Noted k (h + m) first′ second′
+  pub noted : (m : ℕ) → C m → Noted k (h + m) first′ second′
   pub first-lasts : Lasts first first′
   pub second-lasts : Lasts second second′
 
 -- The tables have the costs of all locations where all is played.
 pub record Ended (s low high : List ℕ) : Type 0 where
-  pub low-layer : Layer s [] 0 low
-  pub high-layer : Layer s [] half high
+  pub low-layer : Layer s [] (λ (l : ℕ). l < locations s) 0 low
+  pub high-layer : Layer s [] (λ (l : ℕ). l < locations s) half high
   pub low-small : Small low
   pub high-small : Small high
 
--- The tables have the costs of all locations from the action k on, and the memos are right and have all entries from there on.
-pub record LayersOf (s cs : List ℕ) (k : ℕ) (low high first second : List ℕ) : Type 0 where
-  pub low-layer : Layer s (drop k cs) 0 low
-  pub high-layer : Layer s (drop k cs) half high
+-- The tables have the costs of the locations of a set from the action k on, and the memos are right and have all entries from there on.
+pub record LayersOf (s cs : List ℕ) (k places : ℕ) (low high first second : List ℕ) : Type 0 where
+  pub low-layer : Layer s (drop k cs) (Has places) 0 low
+  pub high-layer : Layer s (drop k cs) (Has places) half high
   pub low-small : Small low
   pub high-small : Small high
   pub ground : Ground s cs first second
-  pub full : Full s cs k first second
+  pub full : Full s cs k (Has places) first second
 
--- The memos are right, and nothing is missing.
-pub record Filled (s cs first second : List ℕ) : Type 0 where
+-- The memos are right, and nothing is missing from the second action on.
+pub record Filled (s cs : List ℕ) (places : ℕ) (first second : List ℕ) : Type 0 where
   pub ground : Ground s cs first second
-  pub full : Full s cs 1 first second
+  pub full : Full s cs 1 (Has places) first second

@@ -14,6 +14,7 @@ pub mod Waits
 pub mod Next
 pub mod Costs
 pub mod Chains
+pub mod Targets
 pub mod Layers
 pub mod Dates
 pub mod Outlook

@@ -1,18 +1,21 @@
-// The costs of all configurations before each action of a list but the first, from the last action back; those right after a reset are noted in the memos.
+// The costs before each action of a list but the first, from the last action back, of all configurations at the locations that the actions before it can enter. Those right after a reset are noted in the memos.
 use crate::bytes;
 use crate::clocks;
 use crate::costs;
 use crate::limits::Monitor;
+use crate::locations;
+use crate::targets;
 ghost use mathlib.Core.Path.{_≡_};
 ghost use mathlib.Core.Bool.{cond};
 ghost use mathlib.Core.List.{[]};
-ghost use Prim.Native.Nat.{_+_, _*_, _≤_, _<_, min};
+ghost use Prim.Native.Nat.{ℕ, _+_, _*_, _≤_, _<_, min};
 ghost use lib.ListN.{length, getD, drop, set};
 ghost use Rattle.enforcement.specs.Automaton.{locations, clocks, transitionAt};
 ghost use Rattle.enforcement.specs.Loading.{Loads, Fits};
 ghost use Rattle.enforcement.specs.Model.{top, width};
 ghost use Rattle.retimer.specs.Costs.{never, Ground};
-ghost use Rattle.retimer.specs.Layers.{cellOf, tick, RowAsked, RowTicked, half, RowsTicked, AllTicked, LineAsked, RowLowered, BoxLowered, Now, Laying, Ready, Cleared, Took, Laid, Stretch, LocationWritten, AllWritten, AllLaid, OneLaid, Noting, AllNoting, Full, Ended, LayersOf, Filled};
+ghost use Rattle.retimer.specs.Targets.{Enters, EntersFrom, EntersFromAny, InSheet};
+ghost use Rattle.retimer.specs.Layers.{cellOf, tick, RowAsked, RowTicked, half, Range, Chosen, RowsTicked, AllTicked, LineAsked, RowLowered, BoxLowered, Now, Laying, Ready, Cleared, Took, Laid, Stretch, LocationWritten, AllWritten, AllLaid, OneLaid, Noting, AllNoting, Full, NotedFrom, Ended, LayersOf, Filled};
 
 // A table has the costs of as many locations.
 const HALF: usize = Monitor::COUNT / 2;
@@ -79,27 +82,29 @@ fn tick_at(table: &mut [u16], m: usize, y: usize)
     tick_last(table, here);
 }
 
-// The row y of each location before n.
-fn tick_rows(table: &mut [u16], n: usize, y: usize)
-    requires { ⌜ (Ready 0 (now table)) × ((n ≤ half) × (y ≤ top)) ⌝ }
-    ensures { λ _. ⌜ RowsTicked n y (now (table .entry)) (now (table .exit)) ⌝ }
+// The row y of each location that is chosen.
+fn tick_rows(table: &mut [u16], h: usize, n: usize, places: u16, y: usize)
+    requires { ⌜ ((Ready 0 (now table)) × (y ≤ top)) × (Range h n) ⌝ }
+    ensures { λ _. ⌜ RowsTicked (Chosen h n places) y (now (table .entry)) (now (table .exit)) ⌝ }
 {
     let mut m = 0;
     while m < n {
-        tick_at(table, m, y);
+        if locations::has(places, h + m) {
+            tick_at(table, m, y);
+        }
         m += 1;
     }
 }
 
-// All rows of the locations before n. A row is done for all of them before the row that reads it: one that was just written is slow to read.
-fn ticks(table: &mut [u16], n: usize)
-    requires { ⌜ (Ready 0 (now table)) × (n ≤ half) ⌝ }
-    ensures { λ _. ⌜ AllTicked n (now (table .entry)) (now (table .exit)) ⌝ }
+// All rows of the locations that are chosen. A row is done for all of them before the row that reads it: one that was just written is slow to read.
+fn ticks(table: &mut [u16], h: usize, n: usize, places: u16)
+    requires { ⌜ (Ready 0 (now table)) × (Range h n) ⌝ }
+    ensures { λ _. ⌜ AllTicked (Chosen h n places) (now (table .entry)) (now (table .exit)) ⌝ }
 {
     let mut y = Monitor::WIDTH;
     while 0 < y {
         y -= 1;
-        tick_rows(table, n, y);
+        tick_rows(table, h, n, places, y);
     }
 }
 
@@ -183,7 +188,7 @@ fn rule(
     table: &mut [u16],
     m: usize,
 )
-    requires { ⌜ (Laying (now s) (now cs) k (now low) (now high)) × (((p + 7 ≤ length (now s)) × (Fits (now s) (transitionAt (now s) p))) × (Ready m (now table))) ⌝ }
+    requires { ⌜ (Laying (now s) (now cs) k (λ (n : ℕ). Enters (getD (now cs) k 0) n (transitionAt (now s) p)) (now low) (now high)) × (((p + 7 ≤ length (now s)) × (Fits (now s) (transitionAt (now s) p))) × (Ready m (now table))) ⌝ }
     ensures { λ _. ⌜ Took (λ x y w. Now (now (s .entry)) (getD (now (cs .entry)) k 0) (drop (k + 1) (now (cs .entry))) w x y (transitionAt (now (s .entry)) p)) m (now (table .entry)) (now (table .exit)) ⌝ }
 {
     if s[p] != cs[k] {
@@ -221,7 +226,7 @@ fn write(
     table: &mut [u16],
     m: usize,
 )
-    requires { ⌜ (Laying (now s) (now cs) k (now low) (now high)) × ((l < locations (now s)) × (Ready m (now table))) ⌝ }
+    requires { ⌜ (Laying (now s) (now cs) k (EntersFrom (now s) (getD (now cs) k 0) l) (now low) (now high)) × ((l < locations (now s)) × (Ready m (now table))) ⌝ }
     ensures { λ _. ⌜ LocationWritten (now (s .entry)) (getD (now (cs .entry)) k 0) (drop (k + 1) (now (cs .entry))) l m (now (table .entry)) (now (table .exit)) ⌝ }
 {
     clear(table, m, costs::NEVER);
@@ -234,23 +239,26 @@ fn write(
     }
 }
 
-// The same for n locations from h on.
+// The same for those of n locations from h on that are in a set.
 fn write_all(
     s: &[u8],
     cs: &[u8],
     k: usize,
     h: usize,
+    n: usize,
+    places: u16,
     low: &[u16],
     high: &[u16],
     table: &mut [u16],
-    n: usize,
 )
-    requires { ⌜ (Laying (now s) (now cs) k (now low) (now high)) × ((Stretch (now s) h n) × (Ready 0 (now table))) ⌝ }
-    ensures { λ _. ⌜ AllWritten (now (s .entry)) (getD (now (cs .entry)) k 0) (drop (k + 1) (now (cs .entry))) h n (now (table .entry)) (now (table .exit)) ⌝ }
+    requires { ⌜ (Laying (now s) (now cs) k (EntersFromAny (now s) (getD (now cs) k 0) places) (now low) (now high)) × ((Stretch (now s) h n) × (Ready 0 (now table))) ⌝ }
+    ensures { λ _. ⌜ AllWritten (now (s .entry)) (getD (now (cs .entry)) k 0) (drop (k + 1) (now (cs .entry))) h (Chosen h n places) (now (table .entry)) (now (table .exit)) ⌝ }
 {
     let mut m = 0;
     while m < n {
-        write(s, cs, k, h + m, low, high, table, m);
+        if locations::has(places, h + m) {
+            write(s, cs, k, h + m, low, high, table, m);
+        }
         m += 1;
     }
 }
@@ -280,53 +288,58 @@ fn note(
     }
 }
 
-// The same for n locations from h on.
+// The same for those of n locations from h on that are in a set.
 fn note_all(
     s: &[u8],
     cs: &[u8],
     k: usize,
     h: usize,
-    table: &[u16],
     n: usize,
+    places: u16,
+    table: &[u16],
     first: &mut [u16],
     second: &mut [u16],
 )
-    requires { ⌜ (((1 ≤ k) × (k < length (now cs))) × (Stretch (now s) h n)) × (((Ready 0 (now table)) × (AllLaid (now s) (drop k (now cs)) h n (now table))) × (Ground (now s) (now cs) (now first) (now second))) ⌝ }
-    ensures { λ _. ⌜ AllNoting (now (s .entry)) (now (cs .entry)) k h n (now (first .entry)) (now (second .entry)) (now (first .exit)) (now (second .exit)) ⌝ }
+    requires { ⌜ (((1 ≤ k) × (k < length (now cs))) × (Stretch (now s) h n)) × (((Ready 0 (now table)) × (AllLaid (now s) (drop k (now cs)) h (Chosen h n places) (now table))) × (Ground (now s) (now cs) (now first) (now second))) ⌝ }
+    ensures { λ _. ⌜ AllNoting (now (s .entry)) (now (cs .entry)) k h (Chosen h n places) (now (first .entry)) (now (second .entry)) (now (first .exit)) (now (second .exit)) ⌝ }
 {
     let mut m = 0;
     while m < n {
-        note(s, cs, k, h + m, table, m, first, second);
+        if locations::has(places, h + m) {
+            note(s, cs, k, h + m, table, m, first, second);
+        }
         m += 1;
     }
 }
 
-// The costs of n locations from h on, from the action k on, in their table; those right after a reset in the memos.
+// The costs of those of n locations from h on that are in a set, from the action k on, in their table; those right after a reset in the memos.
 fn lay_some(
     s: &[u8],
     cs: &[u8],
     k: usize,
     h: usize,
     n: usize,
+    places: u16,
     low: &[u16],
     high: &[u16],
     table: &mut [u16],
     first: &mut [u16],
     second: &mut [u16],
 )
-    requires { ⌜ ((Laying (now s) (now cs) k (now low) (now high)) × ((1 ≤ k) × (Stretch (now s) h n))) × ((Ready 0 (now table)) × (Ground (now s) (now cs) (now first) (now second))) ⌝ }
-    ensures { λ _. ⌜ ((Ready 0 (now (table .exit))) × (AllLaid (now (s .entry)) (drop k (now (cs .entry))) h n (now (table .exit)))) × (AllNoting (now (s .entry)) (now (cs .entry)) k h n (now (first .entry)) (now (second .entry)) (now (first .exit)) (now (second .exit))) ⌝ }
+    requires { ⌜ ((Laying (now s) (now cs) k (EntersFromAny (now s) (getD (now cs) k 0) places) (now low) (now high)) × ((1 ≤ k) × (Stretch (now s) h n))) × ((Ready 0 (now table)) × (Ground (now s) (now cs) (now first) (now second))) ⌝ }
+    ensures { λ _. ⌜ ((Ready 0 (now (table .exit))) × (AllLaid (now (s .entry)) (drop k (now (cs .entry))) h (Chosen h n places) (now (table .exit)))) × (AllNoting (now (s .entry)) (now (cs .entry)) k h (Chosen h n places) (now (first .entry)) (now (second .entry)) (now (first .exit)) (now (second .exit))) ⌝ }
 {
-    write_all(s, cs, k, h, low, high, table, n);
-    ticks(table, n);
-    note_all(s, cs, k, h, table, n, first, second);
+    write_all(s, cs, k, h, n, places, low, high, table);
+    ticks(table, h, n, places);
+    note_all(s, cs, k, h, n, places, table, first, second);
 }
 
-// The costs of all locations from the action k on.
+// The costs of all locations of a set, from the action k on.
 fn lay_all(
     s: &[u8],
     cs: &[u8],
     k: usize,
+    places: u16,
     low: &[u16],
     high: &[u16],
     newlow: &mut [u16],
@@ -334,16 +347,28 @@ fn lay_all(
     first: &mut [u16],
     second: &mut [u16],
 )
-    requires { ⌜ ((Laying (now s) (now cs) k (now low) (now high)) × (1 ≤ k)) × (((Ready 0 (now newlow)) × (Ready 0 (now newhigh))) × ((Ground (now s) (now cs) (now first) (now second)) × (Full (now s) (now cs) (k + 1) (now first) (now second)))) ⌝ }
-    ensures { λ _. ⌜ LayersOf (now (s .entry)) (now (cs .entry)) k (now (newlow .exit)) (now (newhigh .exit)) (now (first .exit)) (now (second .exit)) ⌝ }
+    requires { ⌜ ((Laying (now s) (now cs) k (EntersFromAny (now s) (getD (now cs) k 0) places) (now low) (now high)) × ((1 ≤ k) × (InSheet (now s) places))) × (((Ready 0 (now newlow)) × (Ready 0 (now newhigh))) × ((Ground (now s) (now cs) (now first) (now second)) × (Full (now s) (now cs) (k + 1) (EntersFromAny (now s) (getD (now cs) k 0) places) (now first) (now second)))) ⌝ }
+    ensures { λ _. ⌜ LayersOf (now (s .entry)) (now (cs .entry)) k places (now (newlow .exit)) (now (newhigh .exit)) (now (first .exit)) (now (second .exit)) ⌝ }
 {
     let n = bytes::wide(s[0]);
     if n <= HALF {
-        lay_some(s, cs, k, 0, n, low, high, newlow, first, second);
+        lay_some(s, cs, k, 0, n, places, low, high, newlow, first, second);
         return;
     }
-    lay_some(s, cs, k, 0, HALF, low, high, newlow, first, second);
-    lay_some(s, cs, k, HALF, n - HALF, low, high, newhigh, first, second);
+    lay_some(s, cs, k, 0, HALF, places, low, high, newlow, first, second);
+    lay_some(
+        s,
+        cs,
+        k,
+        HALF,
+        n - HALF,
+        places,
+        low,
+        high,
+        newhigh,
+        first,
+        second,
+    );
 }
 
 // The costs of a location where all is played, in its table.
@@ -371,70 +396,87 @@ fn end_all(s: &[u8], low: &mut [u16], high: &mut [u16])
     }
 }
 
-// From the tables for the action k, the costs right after a reset before it and all earlier ones.
-fn descend(
+// The costs of all locations of a set from the action k on, in the first two tables. First, in the other two, those from the action after it on, of the locations that it enters.
+fn lay_from(
     s: &[u8],
     cs: &[u8],
     k: usize,
+    places: u16,
     low: &mut [u16],
     high: &mut [u16],
-    newlow: &mut [u16],
-    newhigh: &mut [u16],
+    low2: &mut [u16],
+    high2: &mut [u16],
     first: &mut [u16],
     second: &mut [u16],
 )
-    requires { ⌜ ((LayersOf (now s) (now cs) k (now low) (now high) (now first) (now second)) × (k ≤ length (now cs))) × ((Ready 0 (now newlow)) × (Ready 0 (now newhigh))) ⌝ }
-    ensures { λ _. ⌜ Filled (now (s .entry)) (now (cs .entry)) (now (first .exit)) (now (second .exit)) ⌝ }
+    requires { ⌜ ((Ground (now s) (now cs) (now first) (now second)) × (((1 ≤ k) × (k ≤ length (now cs))) × (InSheet (now s) places))) × (((Ready 0 (now low)) × (Ready 0 (now high))) × ((Ready 0 (now low2)) × (Ready 0 (now high2)))) ⌝ }
+    ensures { λ _. ⌜ (LayersOf (now (s .entry)) (now (cs .entry)) k places (now (low .exit)) (now (high .exit)) (now (first .exit)) (now (second .exit))) × ((Ready 0 (now (low2 .exit))) × (Ready 0 (now (high2 .exit)))) ⌝ }
 {
-    if k <= 1 {
+    if k == cs.len() {
+        end_all(s, low, high);
         return;
     }
-    lay_all(s, cs, k - 1, low, high, newlow, newhigh, first, second);
-    descend(s, cs, k - 1, newlow, newhigh, low, high, first, second);
+    let next = targets::of_all(s, cs[k], places);
+    lay_from(s, cs, k + 1, next, low2, high2, low, high, first, second);
+    lay_all(s, cs, k, places, low2, high2, low, high, first, second);
 }
 
 // Each table has a frame of its own, as a memo has: the function calls itself with one more table, until there are four.
 fn with_tables(
     s: &[u8],
     cs: &[u8],
+    places: u16,
     n: usize,
     low: &mut [u16],
     high: &mut [u16],
-    newlow: &mut [u16],
+    low2: &mut [u16],
     first: &mut [u16],
     second: &mut [u16],
 )
-    requires { ⌜ ((Ground (now s) (now cs) (now first) (now second)) × (n ≤ 3)) × ((1 ≤ n → Ready 0 (now low)) × ((2 ≤ n → Ready 0 (now high)) × (3 ≤ n → Ready 0 (now newlow)))) ⌝ }
-    ensures { λ _. ⌜ Filled (now (s .entry)) (now (cs .entry)) (now (first .exit)) (now (second .exit)) ⌝ }
+    requires { ⌜ (((Ground (now s) (now cs) (now first) (now second)) × ((1 ≤ length (now cs)) × (InSheet (now s) places))) × (n ≤ 3)) × ((1 ≤ n → Ready 0 (now low)) × ((2 ≤ n → Ready 0 (now high)) × (3 ≤ n → Ready 0 (now low2)))) ⌝ }
+    ensures { λ _. ⌜ Filled (now (s .entry)) (now (cs .entry)) places (now (first .exit)) (now (second .exit)) ⌝ }
 {
     let mut own = [0u16; SIZE];
     if n == 0 {
-        with_tables(s, cs, 1, &mut own, high, newlow, first, second);
+        with_tables(s, cs, places, 1, &mut own, high, low2, first, second);
         return;
     }
     if n == 1 {
-        with_tables(s, cs, 2, low, &mut own, newlow, first, second);
+        with_tables(s, cs, places, 2, low, &mut own, low2, first, second);
         return;
     }
     if n == 2 {
-        with_tables(s, cs, 3, low, high, &mut own, first, second);
+        with_tables(s, cs, places, 3, low, high, &mut own, first, second);
         return;
     }
-    end_all(s, low, high);
-    descend(s, cs, cs.len(), low, high, newlow, &mut own, first, second);
+    lay_from(s, cs, 1, places, low, high, low2, &mut own, first, second);
 }
 
-// The costs right after a reset before each action but the first, all of them, in the memos. With one clock a reset leads to one configuration of a location: the search meets few of
-// them, and nothing is done.
-pub fn layers(s: &[u8], cs: &[u8], first: &mut [u16], second: &mut [u16])
-    requires { ⌜ Ground (now s) (now cs) (now first) (now second) ⌝ }
-    ensures { λ _. ⌜ (Ground (now (s .entry)) (now (cs .entry)) (now (first .exit)) (now (second .exit))) × (clocks (now (s .entry)) ≡ 2 → Full (now (s .entry)) (now (cs .entry)) 1 (now (first .exit)) (now (second .exit))) ⌝ }
+// The costs right after a reset before each action but the first, in the memos: of all locations that the actions before it can enter from l. With one clock a reset leads to one
+// configuration of a location: the search meets few of them, and nothing is done.
+pub fn layers(s: &[u8], cs: &[u8], l: u8, first: &mut [u16], second: &mut [u16])
+    requires { ⌜ (Ground (now s) (now cs) (now first) (now second)) × (l < locations (now s)) ⌝ }
+    ensures { λ _. ⌜ (Ground (now (s .entry)) (now (cs .entry)) (now (first .exit)) (now (second .exit))) × (clocks (now (s .entry)) ≡ 2 → NotedFrom (now (s .entry)) (now (cs .entry)) l (now (first .exit)) (now (second .exit))) ⌝ }
 {
     if s[1] == 1 {
         return;
     }
+    if cs.len() == 0 {
+        return;
+    }
+    let places = targets::of(s, cs[0], bytes::wide(l));
     let mut low = [0u16; 0];
     let mut high = [0u16; 0];
-    let mut newlow = [0u16; 0];
-    with_tables(s, cs, 0, &mut low, &mut high, &mut newlow, first, second);
+    let mut low2 = [0u16; 0];
+    with_tables(
+        s,
+        cs,
+        places,
+        0,
+        &mut low,
+        &mut high,
+        &mut low2,
+        first,
+        second,
+    );
 }

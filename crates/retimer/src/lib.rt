@@ -33,6 +33,9 @@ pub mod waits;
 // The least ticks of a list of actions.
 mod costs;
 
+// The locations that an action can enter.
+mod targets;
+
 // Layers of costs.
 mod layers;
 

@@ -203,7 +203,7 @@ fn plan_many<'a>(
 {
     let mut own = [0u16; PLACES];
     if given {
-        layers::layers(s, cs, first, &mut own);
+        layers::layers(s, cs, l, first, &mut own);
         return solve(s, cs, l, r, t, out, first, &mut own);
     }
     plan_many(s, cs, l, r, t, out, &mut own, true)

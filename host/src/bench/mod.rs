@@ -106,12 +106,12 @@ pub const KINDS: &[Kind] = &[
     kind("two clocks", [40_000, ALL, 1_600, 30], mixed::two_clocks),
     kind(
         "long held lists, one clock",
-        [40_000, ALL, 800, 6],
+        [40_000, ALL, 800, 20],
         long_one,
     ),
     kind(
         "long held lists, two clocks",
-        [20_000, ALL, 800, 6],
+        [20_000, ALL, 800, 20],
         long_two,
     ),
     kind("heaviest, many states", [680, ALL, 34, 6], batches_many),

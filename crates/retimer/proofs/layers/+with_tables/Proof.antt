@@ -5,19 +5,18 @@ use mathlib.Core.Path.{refl}
 use Prim.Native.Nat.{ℕ, _-_, _*_, _<_}
 use Rattle.enforcement.specs.Model.{width}
 use Rattle.retimer.specs.Layers.{half}
-use Rattle.retimer.proofs.LayingAll.{ready-none, layers-ended}
+use Rattle.retimer.proofs.LayingAll.{ready-none, filled}
 use borrow.Fn.Kinds.{In}
 use borrow.Fn.PlainCycle.{Measures, is, falls, and}
 use Rattle.retimer.proofs.layers.with_tables.Reads as with-tables
 use Rattle.retimer.proofs.layers.with_tables.Kinds as with-tables-kinds
 use Rattle.retimer.proofs.layers.+with_tables.Lts-with_tables as with-tables-lts
-use Rattle.retimer.proofs.layers.descend.Reads as descend-reads
-use Rattle.retimer.proofs.layers.end_all.Reads as end-all-reads
+use Rattle.retimer.proofs.layers.lay_from.Reads as lay-from-reads
 use Rattle.retimer.proofs.layers.+with_tables.{statement}
 use Rattle.retimer.proofs.layers.+with_tables.Tie.{close}
 
 abbrev μ-with-tables : Measures 7 with-tables-kinds.ps ℕ
-μ-with-tables κs a = 3 - a .1 .1 .0
+μ-with-tables κs a = 3 - a .1 .1 .1 .0
 
 abbrev with-tables-at : ℕ → In 7 with-tables-kinds.ps
 with-tables-at t =
@@ -28,7 +27,7 @@ with-tables-below t =
     and 7 with-tables-kinds.ps (falls 7 with-tables-kinds.ps _<_ μ-with-tables t) with-tables.Pre
 
 abbrev with-tables-calls : ℕ → with-tables-lts.Claims
-with-tables-calls t = (with-tables-below t, with-tables.Post, end-all-reads.Asked, end-all-reads.Learnt, descend-reads.Asked, descend-reads.Learnt)
+with-tables-calls t = (with-tables-below t, with-tables.Post, lay-from-reads.Asked, lay-from-reads.Learnt)
 
 with-tables-slice-aggregate-with-tables : (t : ℕ) → with-tables-lts.Need-slice-aggregate-with-tables (with-tables-calls t) (with-tables-at t) with-tables.Post
 with-tables-slice-aggregate-with-tables t c = refl
@@ -99,18 +98,17 @@ with-tables-same-length-12 t c = search needs
 with-tables-returns-3 : (t : ℕ) → with-tables-lts.Need-returns-3 (with-tables-calls t) (with-tables-at t) with-tables.Post
 with-tables-returns-3 t c = c .before .before .before .before .before .before .before .before .before .with-tables3 .ensures
 
-with-tables-end-all-requires : (t : ℕ) → with-tables-lts.Need-end-all-requires (with-tables-calls t) (with-tables-at t) with-tables.Post
-with-tables-end-all-requires t c κs =
-    let a = c .before .before .before .before .before .before .before .before .before .before .before .before in
-    (a .pre .1 .0 .0 .loads, (a .pre .1 .1 .0 (let q = a .pre .1 .0 .1 in omega arith), a .pre .1 .1 .1 .0 (let q = a .pre .1 .0 .1 in omega arith)))
+with-tables-slice-aggregate-lay-from : (t : ℕ) → with-tables-lts.Need-slice-aggregate-lay-from (with-tables-calls t) (with-tables-at t) with-tables.Post
+with-tables-slice-aggregate-lay-from t c = refl
 
-with-tables-slice-aggregate-descend : (t : ℕ) → with-tables-lts.Need-slice-aggregate-descend (with-tables-calls t) (with-tables-at t) with-tables.Post
-with-tables-slice-aggregate-descend t c = refl
-
-with-tables-descend-requires : (t : ℕ) → with-tables-lts.Need-descend-requires (with-tables-calls t) (with-tables-at t) with-tables.Post
-with-tables-descend-requires t c κs =
-    let a = c .before .before .before .before .before .before .before .before .before .before .before .before .before .before .before .before .before .before .before .before .before .before .before in
-    ((layers-ended (c .before .before .before .before .before .before .before .before .before .before .end-all .ensures) (a .pre .1 .0 .0), omega arith), (a .pre .1 .1 .1 .1 (let q = a .pre .1 .0 .1 in omega arith), ready-none (half * (width * width)) (omega arith)))
+with-tables-lay-from-requires : (t : ℕ) → with-tables-lts.Need-lay-from-requires (with-tables-calls t) (with-tables-at t) with-tables.Post
+with-tables-lay-from-requires t c κs =
+    let a = c .before .before .before .before .before .before .before .before .before .before .before .before .before .before .before .before in
+    let q = a .pre .1 .0 .1 in
+    let f = c .before .before .before .before .before .before .before .before .if1 .left in
+    let g = c .before .before .before .before .before .before .before .if2 .left in
+    let h = c .before .before .before .before .before .before .if3 .left in
+    ((a .pre .1 .0 .0 .0, ((omega arith, a .pre .1 .0 .0 .1 .0), a .pre .1 .0 .0 .1 .1)), ((a .pre .1 .1 .0 (omega arith), a .pre .1 .1 .1 .0 (omega arith)), (a .pre .1 .1 .1 .1 (omega arith), ready-none (half * (width * width)) (omega arith))))
 
 with-tables-same-length-13 : (t : ℕ) → with-tables-lts.Need-same-length-13 (with-tables-calls t) (with-tables-at t) with-tables.Post
 with-tables-same-length-13 t c = search needs
@@ -128,7 +126,7 @@ with-tables-same-length-17 : (t : ℕ) → with-tables-lts.Need-same-length-17 (
 with-tables-same-length-17 t c = search needs
 
 with-tables-returns-4 : (t : ℕ) → with-tables-lts.Need-returns-4 (with-tables-calls t) (with-tables-at t) with-tables.Post
-with-tables-returns-4 t c = c .before .before .before .before .before .before .before .before .before .before .before .descend .ensures
+with-tables-returns-4 t c = filled (c .before .before .before .before .before .before .before .before .before .before .before .lay-from .ensures .0)
 
 pub +with-tables-spec : {M : Type 1} → statement M
 +with-tables-spec = close μ-with-tables λ t. with-tables-lts.spec (with-tables-calls t) (with-tables-at t) with-tables.Post
@@ -153,9 +151,8 @@ pub +with-tables-spec : {M : Type 1} → statement M
     (with-tables-same-length-11 t)
     (with-tables-same-length-12 t)
     (with-tables-returns-3 t)
-    (with-tables-end-all-requires t)
-    (with-tables-slice-aggregate-descend t)
-    (with-tables-descend-requires t)
+    (with-tables-slice-aggregate-lay-from t)
+    (with-tables-lay-from-requires t)
     (with-tables-same-length-13 t)
     (with-tables-same-length-14 t)
     (with-tables-same-length-15 t)

@@ -1,41 +1,66 @@
 -- `layers::note_all` meets its contract. Assumes nothing.
 use native.Mathlib.Omega.{arith}
 use borrow.Author.Needs.{needs}
-use mathlib.Core.Path.{_≡_, subst}
+use mathlib.Core.Path.{_≡_, sym, _∙_, subst}
+use mathlib.Core.Logic.{⊎-elim}
 use Prim.Native.Nat.{ℕ, _-_, _≤_}
 use Rattle.enforcement.proofs.Loading.{header}
-use Rattle.retimer.specs.Layers.{AllNoting}
-use Rattle.retimer.proofs.LayingAll.{notes-begun, notes-next}
+use Rattle.enforcement.proofs.Tests.{true-false}
+use Rattle.retimer.specs.Layers.{Chosen, AllNoting}
+use Rattle.retimer.proofs.LayingAll.{notes-begun, notes-passed, notes-next}
 use Rattle.retimer.proofs.layers.note_all.Statement.{statement}
 use Rattle.retimer.proofs.layers.note_all.Tie as tie
 
 abbrev Inv-loop : tie.InvT-loop
-Inv-loop s cs k h table n first₀ second₀ m₀ first second m = AllNoting s cs k h m first₀ second₀ first second × (m ≤ n)
+Inv-loop s cs k h n places table first₀ second₀ m₀ first second m = AllNoting s cs k h (Chosen h m places) first₀ second₀ first second × (m ≤ n)
 
 abbrev μ-loop : tie.MeasureT-loop
-μ-loop s cs k h table n first₀ second₀ m₀ first second m = n - m
+μ-loop s cs k h n places table first₀ second₀ m₀ first second m = n - m
 
 loop-holds : tie.Need-loop-holds Inv-loop μ-loop
 loop-holds c = (notes-begun (c .before .before .before .before .before .pre .1 .1), omega arith)
 
-add-note : tie.Need-add-note Inv-loop μ-loop
-add-note c =
+add-has : tie.Need-add-has Inv-loop μ-loop
+add-has c =
     let i = header (c .before .before .before .before .before .before .before .args .s .now) (c .before .before .before .before .before .before .before .pre .1 .1 .loads) .locations-fit in
     omega (arith, c .before .before .before .before .before .before .before .pre .0 .1 .in-sheet)
 
+has-requires : tie.Need-has-requires Inv-loop μ-loop
+has-requires c κs =
+    let i = header (c .before .before .before .before .before .before .before .args .s .now) (c .before .before .before .before .before .before .before .pre .1 .1 .loads) .locations-fit in
+    omega (arith, c .before .before .before .before .before .before .before .pre .0 .1 .in-sheet)
+
+add-note : tie.Need-add-note Inv-loop μ-loop
+add-note c =
+    let i = header (c .before .before .before .before .before .before .before .before .before .args .s .now) (c .before .before .before .before .before .before .before .before .before .pre .1 .1 .loads) .locations-fit in
+    omega (arith, c .before .before .before .before .before .before .before .before .before .pre .0 .1 .in-sheet, c .before .before .loop-test .taken)
+
 note-requires : tie.Need-note-requires Inv-loop μ-loop
 note-requires c κs =
-    let a = c .before .before .before .before .before .before .before .before .before in
-    ((a .pre .0 .0, omega (arith, a .pre .0 .1 .in-sheet)), ((record { in-half = omega (arith, a .pre .0 .1 .in-half); size = a .pre .1 .0 .0 .size; small = a .pre .1 .0 .0 .small }, a .pre .1 .0 .1 (c .before .before .before .loop .m) (omega arith)), c .before .before .before .loop .inv .0 .ground))
+    let a = c .before .before .before .before .before .before .before .before .before .before .before in
+    let o = c .before .before .before .before .loop-test .taken in (
+      (a .pre .0 .0, omega (arith, a .pre .0 .1 .in-sheet)),
+      (
+        (record { in-half = omega (arith, a .pre .0 .1 .in-half); size = a .pre .1 .0 .0 .size; small = a .pre .1 .0 .0 .small }, a .pre .1 .0 .1 (c .before .before .before .before .before .loop .m) (record { in-range = o; has = sym (c .before .before .before .has .ensures) ∙ c .before .before .if1 .taken })),
+        c .before .before .before .before .before .loop .inv .0 .ground,
+      ),
+    )
 
 add-m : tie.Need-add-m Inv-loop μ-loop
-add-m c = omega (arith, c .before .before .before .before .before .before .before .before .before .before .before .before .before .before .pre .0 .1 .in-half)
+add-m c = omega (arith, c .before .before .before .before .before .before .before .before .before .pre .0 .1 .in-half, c .before .before .loop-test .taken)
 
 loop-less : tie.Need-loop-less Inv-loop μ-loop
 loop-less c = search needs
 
 loop-again : tie.Need-loop-again Inv-loop μ-loop
-loop-again c = (notes-next (c .before .before .before .before .before .before .before .before .loop .inv .0) (c .before .before .before .before .note .ensures), omega arith)
+loop-again c =
+    let w = c .before .before .before .loop .inv .0 in (
+      ⊎-elim
+          (λ t. rw (t .8, t .9) (notes-next w (t .3 .ensures)))
+          (λ t. rw (t .1, t .2) (notes-passed w (λ h. true-false h (sym (c .before .has .ensures) ∙ t .0 .left))))
+          (c .if1 .came),
+      omega (arith, c .before .before .loop-test .taken),
+    )
 
 same-length : tie.Need-same-length Inv-loop μ-loop
 same-length c = c .before .loop .inv .0 .first-kept
@@ -46,8 +71,8 @@ same-length-2 c = c .before .loop .inv .0 .second-kept
 returns : tie.Need-returns Inv-loop μ-loop
 returns c =
     let a = c .before .before .before .before .before .before .before in
-    let e : c .before .loop .m ≡ a .args .n = omega (arith, c .before .loop .inv .1) in
-    subst (λ (i : ℕ). AllNoting (a .args .s .now) (a .args .cs .now) (a .args .k) (a .args .h) i (a .args .first .now) (a .args .second .now) (c .before .loop .first) (c .before .loop .second)) e (c .before .loop .inv .0)
+    let e : c .before .loop .m ≡ a .args .n = omega (arith, c .before .loop .inv .1, c .loop-test .left) in
+    subst (λ (i : ℕ). AllNoting (a .args .s .now) (a .args .cs .now) (a .args .k) (a .args .h) (Chosen (a .args .h) i (a .args .places)) (a .args .first .now) (a .args .second .now) (c .before .loop .first) (c .before .loop .second)) e (c .before .loop .inv .0)
 
 pub note-all-spec : {M : Type 1} → statement M
 note-all-spec =
@@ -56,6 +81,8 @@ note-all-spec =
     Inv-loop
     μ-loop
     loop-holds
+    add-has
+    has-requires
     add-note
     note-requires
     add-m

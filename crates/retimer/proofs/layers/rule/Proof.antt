@@ -38,7 +38,7 @@ same-length c = search needs
 returns-2 : tie.Need-returns-2
 returns-2 c =
     let a = c .before .before .before .before .before .before .before .before .before .before .before .before .before .before .before in
-    took-box (a .pre .1 .1 .small) (c .before .before .before .before .before .before .before .if1 .left) (a .pre .0 .low-layer) (omega (arith, c .before .before .before .before .before .wide .ensures .0)) (omega (arith, c .before .before .before .before .if2 .taken)) (a .pre .1 .0 .1) (c .before .before .lower-box .ensures)
+    took-box (a .pre .1 .1 .small) (c .before .before .before .before .before .before .before .if1 .left) (a .pre .0 .low-layer) (omega (arith, c .before .before .before .before .before .wide .ensures .0)) (omega (arith, c .before .before .before .before .if2 .taken)) (c .before .before .lower-box .ensures)
 
 lower-box-requires-2 : tie.Need-lower-box-requires-2
 lower-box-requires-2 c κs =
@@ -53,7 +53,7 @@ returns-3 : tie.Need-returns-3
 returns-3 c =
     let a = c .before .before .before .before .before .before .before .before .before .before .before .before .before .before .before in
     let n = header (a .args .s .now) (a .pre .0 .loads) .locations-fit in
-    took-box (a .pre .1 .1 .small) (c .before .before .before .before .before .before .before .if1 .left) (a .pre .0 .high-layer) (omega (arith, c .before .before .before .before .before .wide .ensures .0, c .before .before .before .before .if2 .left)) (omega (arith, c .before .before .before .before .before .wide .ensures .0, a .pre .1 .0 .1 .target-fits)) (a .pre .1 .0 .1) (c .before .before .lower-box2 .ensures)
+    took-box (a .pre .1 .1 .small) (c .before .before .before .before .before .before .before .if1 .left) (a .pre .0 .high-layer) (omega (arith, c .before .before .before .before .before .wide .ensures .0, c .before .before .before .before .if2 .left)) (omega (arith, c .before .before .before .before .before .wide .ensures .0, a .pre .1 .0 .1 .target-fits)) (c .before .before .lower-box2 .ensures)
 
 pub rule-spec : {M : Type 1} → statement M
 rule-spec =

@@ -2,15 +2,16 @@
 use native.Mathlib.Omega.{arith}
 use borrow.Author.Needs.{needs}
 use mathlib.Core.Path.{_∙_}
+use Rattle.retimer.specs.Layers.{Chosen}
 use Rattle.retimer.proofs.LayingRows.{InTicks, ticks-begun, ticks-done, ticks-next}
 use Rattle.retimer.proofs.layers.ticks.Statement.{statement}
 use Rattle.retimer.proofs.layers.ticks.Tie as tie
 
 abbrev Inv-loop : tie.InvT-loop
-Inv-loop table₀ n y₀ table y = InTicks n y table₀ table
+Inv-loop table₀ h n places y₀ table y = InTicks (Chosen h n places) y table₀ table
 
 abbrev μ-loop : tie.MeasureT-loop
-μ-loop table₀ n y₀ table y = y
+μ-loop table₀ h n places y₀ table y = y
 
 loop-holds : tie.Need-loop-holds Inv-loop μ-loop
 loop-holds c = ticks-begun (c .before .pre .0 .small)
@@ -19,7 +20,7 @@ sub-y : tie.Need-sub-y Inv-loop μ-loop
 sub-y c = search needs
 
 tick-rows-requires : tie.Need-tick-rows-requires Inv-loop μ-loop
-tick-rows-requires c κs = (record { in-half = omega arith; size = c .before .before .loop .inv .same-length ∙ c .before .before .before .before .pre .0 .size; small = c .before .before .loop .inv .small }, (c .before .before .before .before .pre .1, omega (arith, c .before .before .loop .inv .y-fits)))
+tick-rows-requires c κs = ((record { in-half = omega arith; size = c .before .before .loop .inv .same-length ∙ c .before .before .before .before .pre .0 .size; small = c .before .before .loop .inv .small }, omega (arith, c .before .before .loop .inv .y-fits)), c .before .before .before .before .pre .1)
 
 loop-less : tie.Need-loop-less Inv-loop μ-loop
 loop-less c = search needs

@@ -4,7 +4,7 @@ use native.Mathlib.Omega.{arith}
 use mathlib.Core.Path.{_∙_}
 use Prim.Native.Nat.{_-_}
 use Rattle.enforcement.proofs.Loading.{header, pairs-fit}
-use Rattle.retimer.proofs.LayingLocations.{ready-cleared, written-cleared, InLay, lay-begun, lay-inside, lay-fits, lay-ready, lay-next, lay-done}
+use Rattle.retimer.proofs.LayingLocations.{ready-cleared, written-cleared, InLay, lay-begun, lay-inside, lay-fits, lay-rule, lay-ready, lay-next, lay-done}
 use Rattle.retimer.proofs.layers.write.Statement.{statement}
 use Rattle.retimer.proofs.layers.write.Tie as tie
 
@@ -58,7 +58,7 @@ rule-requires c κs =
     let a = c .before .before .before .before .before .before .before .before .before .before .before .before .before .before in
     let b = ready-cleared (a .pre .1 .1) (c .before .before .before .before .before .before .before .clear .ensures) in
     let w = c .before .before .loop .inv in
-    (a .pre .0, ((lay-inside (a .pre .0) (a .pre .1 .0) b w (omega arith), lay-fits (a .pre .0) (a .pre .1 .0) b w (omega arith)), lay-ready (a .pre .0) (a .pre .1 .0) b w))
+    (lay-rule (a .pre .0) (a .pre .1 .0) b w (omega arith), ((lay-inside (a .pre .0) (a .pre .1 .0) b w (omega arith), lay-fits (a .pre .0) (a .pre .1 .0) b w (omega arith)), lay-ready (a .pre .0) (a .pre .1 .0) b w))
 
 add-p : tie.Need-add-p Inv-loop μ-loop
 add-p c =

@@ -36,7 +36,7 @@ plan-many-slice-aggregate-layers t c = search needs
 plan-many-layers-requires : (t : ℕ) → plan-many-lts.Need-layers-requires (plan-many-calls t) (plan-many-at t) plan-many.Post
 plan-many-layers-requires t c κs =
     let a = c .before .before .before .before .before .before .before in
-    record { loads = a .pre .1 .0 .loads; few = a .pre .1 .0 .few; after-first = a .pre .1 .1 (c .before .before .if1 .taken); after-second = known-none (a .args .s .now) (a .args .cs .now) true (placesFor (maxCount + 1)) (omega (arith, a .pre .1 .0 .few)) }
+    (record { loads = a .pre .1 .0 .loads; few = a .pre .1 .0 .few; after-first = a .pre .1 .1 (c .before .before .if1 .taken); after-second = known-none (a .args .s .now) (a .args .cs .now) true (placesFor (maxCount + 1)) (omega (arith, a .pre .1 .0 .few)) }, a .pre .1 .0 .standing .in-sheet)
 
 plan-many-slice-aggregate-solve : (t : ℕ) → plan-many-lts.Need-slice-aggregate-solve (plan-many-calls t) (plan-many-at t) plan-many.Post
 plan-many-slice-aggregate-solve t c = search needs
