@@ -14,10 +14,9 @@ use Rattle.enforcement.specs.Automaton.{Bytes, Transition, word, locations, tra
 use Rattle.enforcement.specs.Loading.{Loads, Fits, AllFit, Bounded}
 use Rattle.enforcement.proofs.Loading.{bounded}
 use Rattle.enforcement.proofs.Bits.{or-cases, or-shown, in-or, none-in}
-use Rattle.enforcement.proofs.Tests.{true-false}
 use Rattle.retimer.specs.Steps.{One}
-use Rattle.retimer.specs.Locations.{Added}
-use Rattle.retimer.specs.Targets.{Has, Enters, EntersFrom, EntersFromAny, InSheet, Gathered}
+use Rattle.retimer.specs.Locations.{Has, InSheet, Added}
+use Rattle.retimer.specs.Targets.{Enters, EntersFrom, EntersFromAny, Gathered}
 use Rattle.retimer.proofs.Left.{Left, left-begun, left-inside, left-fits, left-next, left-passed, left-none}
 
 -- ---- From one location

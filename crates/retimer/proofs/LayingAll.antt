@@ -1,4 +1,4 @@
--- The costs of all locations, one after the other.
+-- The costs of all locations of a set, and their notes for all actions.
 -- Assumes nothing.
 use mathlib.Core.Path.{_≡_, refl, ap, sym, _∙_, subst, subst⁻¹}
 use mathlib.Core.Bool.{Bool, true, false, cond}
@@ -13,7 +13,8 @@ use borrow.Author.Tests.{eqb-true, eqb-false}
 use Rattle.enforcement.specs.Automaton.{Bytes, accepting, locations}
 use Rattle.enforcement.specs.Model.{width}
 use Rattle.retimer.specs.Costs.{never, configuration, placeOf, Ground}
-use Rattle.retimer.specs.Targets.{Has, EntersFrom, EntersFromAny, EntersAfter, InSheet, Gathered}
+use Rattle.retimer.specs.Locations.{Has, InSheet}
+use Rattle.retimer.specs.Targets.{EntersFrom, EntersFromAny, EntersAfter, Gathered}
 use Rattle.retimer.specs.Layers.{half, Chosen, Small, Laid, Layer, Laying, Ready, Cleared, LocationLaid, OneLaid, AllLaid, Noted, Full, NotedFrom, Lasts, Noting, AllNoting, Ended, LayersOf, Filled}
 use Rattle.retimer.proofs.Arrays.{zero-at}
 use Rattle.retimer.proofs.CostLaws.{le-or-lt, end-cost}

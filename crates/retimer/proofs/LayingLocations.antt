@@ -4,7 +4,7 @@ use mathlib.Core.Path.{_≡_, refl, ap, sym, _∙_, subst⁻¹}
 use mathlib.Core.Bool.{Bool, true, false, cond}
 use mathlib.Core.List.{List}
 use mathlib.Core.Logic.{_⊎_, inl, inr, ⊎-elim, _↔_}
-use Prim.Native.Nat.{ℕ, _+_, _-_, _*_, _≤_, _<_}
+use Prim.Native.Nat.{ℕ, _+_, _*_, _≤_, _<_}
 use native.Mathlib.Omega.{arith}
 use lib.Dec.{eqb}
 use lib.ListN.{length, getD, drop, set, length-drop, length-set}
@@ -17,7 +17,8 @@ use Rattle.enforcement.specs.Model.{top, width}
 use Rattle.enforcement.proofs.Loading.{header}
 use Rattle.enforcement.proofs.Tests.{true-false}
 use Rattle.retimer.specs.Costs.{never, costAt, configuration, justReset, placeOf, Ground, Costed, AfterAsked}
-use Rattle.retimer.specs.Targets.{Has, Enters, EntersFrom}
+use Rattle.retimer.specs.Locations.{Has}
+use Rattle.retimer.specs.Targets.{Enters, EntersFrom}
 use Rattle.retimer.specs.Layers.{half, cellOf, cell, Small, Layer, Laid, Range, Stretch, Chosen, AllTicked, Now, NowOne, BoxLowered, Laying, Ready, Cleared, Took, AtOnce, LocationWritten, AllWritten, AllLaid, Lasts, Noting}
 use Rattle.retimer.proofs.Left.{Left, left-whole, left-found, left-begun, left-inside, left-fits, left-next, left-none}
 use Rattle.retimer.proofs.Prospects.{left-some}

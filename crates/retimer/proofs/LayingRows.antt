@@ -12,7 +12,7 @@ use lib.Seq.{getD-set-same, getD-set-other}
 use borrow.Author.Tests.{eqb-true, eqb-false}
 use Rattle.enforcement.specs.Model.{top, width}
 use Rattle.retimer.specs.Costs.{never}
-use Rattle.retimer.specs.Targets.{Has}
+use Rattle.retimer.specs.Locations.{Has}
 use Rattle.retimer.proofs.CostLaws.{le-or-lt}
 use Rattle.retimer.specs.Layers.{cellOf, cell, tick, Small, RowAsked, RowTicked, Ticked, Chosen, RowsTicked, AllTicked, RowLowered}
 
@@ -151,7 +151,7 @@ module _ {here : ℕ} {table : List ℕ} (a : RowAsked here table) where
 -- ---- Chosen locations
 
 module _ {h places m n : ℕ} where
-  pub chosen-wider : Chosen h m places n → Chosen h (m + 1) places n
+  chosen-wider : Chosen h m places n → Chosen h (m + 1) places n
   chosen-wider a = record { in-range = omega (arith, a .in-range); has = a .has }
 
   pub chosen-last : Chosen h (m + 1) places n → (n ≡ m) ⊎ (Chosen h m places n × (n ≡ m → ⊥))

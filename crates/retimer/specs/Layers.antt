@@ -1,4 +1,4 @@
--- Layers: the costs of all configurations with the same actions left, as tables of half the locations each.
+-- Layers: the costs of configurations with the same actions left, as tables of half the locations each.
 use mathlib.Core.Path.{_≡_}
 use mathlib.Core.Bool.{true, false, cond}
 use mathlib.Core.List.{List, []}
@@ -11,7 +11,8 @@ use Rattle.enforcement.specs.TimedWord.{fire}
 use Rattle.enforcement.specs.Loading.{Loads}
 use Rattle.enforcement.specs.Model.{top, width}
 use Rattle.retimer.specs.Steps.{One}
-use Rattle.retimer.specs.Targets.{Has, EntersAfter}
+use Rattle.retimer.specs.Locations.{Has}
+use Rattle.retimer.specs.Targets.{EntersAfter}
 use Rattle.retimer.specs.Costs.{never, costAt, configuration, placeOf, Ground}
 
 -- The locations of a table.
@@ -63,7 +64,7 @@ pub record RowTicked (here above : ℕ) (table table′ : List ℕ) : Type 0 whe
 abbrev pub Ticked : ℕ → ℕ → ℕ → List ℕ → List ℕ → Type 0
 Ticked m x y table table′ = cell table′ m x y ≡ min (cell table m x y) (suc (cell table′ m (tick x) (tick y)))
 
--- There can be n locations from h on, and a table can hold them.
+-- As many as n locations from h on are within the limits, and a table can hold them.
 pub record Range (h n : ℕ) : Type 0 where
   pub in-half : n ≤ half
   pub in-count : h + n ≤ maxCount
@@ -73,19 +74,19 @@ pub record Chosen (h n places m : ℕ) : Type 0 where
   pub in-range : m < n
   pub has : Has places (h + m)
 
--- The row y of each location with C has its costs so, and all else is as before.
-pub record RowsTicked (C : ℕ → Type 0) (y : ℕ) (table table′ : List ℕ) : Type 0 where
+-- The row y of each location at a place with P is ticked, and all else is as before.
+pub record RowsTicked (P : ℕ → Type 0) (y : ℕ) (table table′ : List ℕ) : Type 0 where
   pub same-length : length table′ ≡ length table
   pub small : Small table′
-  pub ticked : (m x : ℕ) → C m → x ≤ top → Ticked m x y table table′
-  pub same : (m x z : ℕ) → (C m → ⊥) ⊎ (z ≡ y → ⊥) → x ≤ top → z ≤ top → cell table′ m x z ≡ cell table m x z
+  pub ticked : (m x : ℕ) → P m → x ≤ top → Ticked m x y table table′
+  pub same : (m x z : ℕ) → (P m → ⊥) ⊎ (z ≡ y → ⊥) → x ≤ top → z ≤ top → cell table′ m x z ≡ cell table m x z
 
--- The same of all rows.
-pub record AllTicked (C : ℕ → Type 0) (table table′ : List ℕ) : Type 0 where
+-- All rows of each location at a place with P are ticked, and all else is as before.
+pub record AllTicked (P : ℕ → Type 0) (table table′ : List ℕ) : Type 0 where
   pub same-length : length table′ ≡ length table
   pub small : Small table′
-  pub ticked : (m x y : ℕ) → C m → x ≤ top → y ≤ top → Ticked m x y table table′
-  pub same : (m x y : ℕ) → (C m → ⊥) → x ≤ top → y ≤ top → cell table′ m x y ≡ cell table m x y
+  pub ticked : (m x y : ℕ) → P m → x ≤ top → y ≤ top → Ticked m x y table table′
+  pub same : (m x y : ℕ) → (P m → ⊥) → x ≤ top → y ≤ top → cell table′ m x y ≡ cell table m x y
 
 -- A table has, at its place m, the costs of the location l with the actions cs left.
 abbrev pub Laid : Bytes → List ℕ → ℕ → ℕ → List ℕ → Type 0
@@ -158,20 +159,20 @@ pub record LocationWritten (s : Bytes) (c : ℕ) (cs : List ℕ) (l m : ℕ) (ta
   pub small : Small table′
   pub at-once : AtOnce s c cs l m table′
 
--- There are n locations from h on, and a table can hold them.
+-- The automaton has n locations from h on, and a table can hold them.
 pub record Stretch (s : Bytes) (h n : ℕ) : Type 0 where
   pub in-half : n ≤ half
   pub in-sheet : h + n ≤ locations s
 
--- A table has got it for those locations from h on that are at places with C.
-pub record AllWritten (s : Bytes) (c : ℕ) (cs : List ℕ) (h : ℕ) (C : ℕ → Type 0) (table table′ : List ℕ) : Type 0 where
+-- A table has, at its places with P, what the action c costs at once at those of the locations from h on.
+pub record AllWritten (s : Bytes) (c : ℕ) (cs : List ℕ) (h : ℕ) (P : ℕ → Type 0) (table table′ : List ℕ) : Type 0 where
   pub same-length : length table′ ≡ length table
   pub small : Small table′
-  pub at-once : (m : ℕ) → C m → AtOnce s c cs (h + m) m table′
+  pub at-once : (m : ℕ) → P m → AtOnce s c cs (h + m) m table′
 
--- A table has the costs of those locations.
+-- A table has, at its places with P, the costs of those of the locations from h on.
 abbrev pub AllLaid : Bytes → List ℕ → ℕ → (ℕ → Type 0) → List ℕ → Type 0
-AllLaid s cs h C table = (m : ℕ) → C m → Laid s cs (h + m) m table
+AllLaid s cs h P table = (m : ℕ) → P m → Laid s cs (h + m) m table
 
 -- The costs of the location l with the actions cs left stand in its table; the other table is as before.
 pub record OneLaid (s cs : List ℕ) (l : ℕ) (low high low′ high′ : List ℕ) : Type 0 where
@@ -203,12 +204,12 @@ pub record Noting (s cs : List ℕ) (k l : ℕ) (first second first′ second′
   pub first-lasts : Lasts first first′
   pub second-lasts : Lasts second second′
 
--- The same with the entries of those locations from h on that are at places with C.
-pub record AllNoting (s cs : List ℕ) (k h : ℕ) (C : ℕ → Type 0) (first second first′ second′ : List ℕ) : Type 0 where
+-- The same with the entries of those of the locations from h on that are at places with P.
+pub record AllNoting (s cs : List ℕ) (k h : ℕ) (P : ℕ → Type 0) (first second first′ second′ : List ℕ) : Type 0 where
   pub first-kept : length first′ ≡ length first
   pub second-kept : length second′ ≡ length second
   pub ground : Ground s cs first′ second′
-  pub noted : (m : ℕ) → C m → Noted k (h + m) first′ second′
+  pub noted : (m : ℕ) → P m → Noted k (h + m) first′ second′
   pub first-lasts : Lasts first first′
   pub second-lasts : Lasts second second′
 
@@ -219,7 +220,7 @@ pub record Ended (s low high : List ℕ) : Type 0 where
   pub low-small : Small low
   pub high-small : Small high
 
--- The tables have the costs of the locations of a set from the action k on, and the memos are right and have all entries from there on.
+-- The tables have the costs of the locations of a set from the action k on, and the memos are right and have the entries of all that can be entered from there.
 pub record LayersOf (s cs : List ℕ) (k places : ℕ) (low high first second : List ℕ) : Type 0 where
   pub low-layer : Layer s (drop k cs) (Has places) 0 low
   pub high-layer : Layer s (drop k cs) (Has places) half high
@@ -228,7 +229,7 @@ pub record LayersOf (s cs : List ℕ) (k places : ℕ) (low high first second : 
   pub ground : Ground s cs first second
   pub full : Full s cs k (Has places) first second
 
--- The memos are right, and nothing is missing from the second action on.
+-- The memos are right, and have the entries of all locations that can be entered from a set by the actions after the first.
 pub record Filled (s cs : List ℕ) (places : ℕ) (first second : List ℕ) : Type 0 where
   pub ground : Ground s cs first second
   pub full : Full s cs 1 (Has places) first second

@@ -1,11 +1,11 @@
 -- The locations that an action can enter, whatever the readings.
 use mathlib.Core.Path.{_≡_}
-use mathlib.Core.Bool.{true}
 use mathlib.Core.List.{List, [], _∷_}
 use mathlib.Core.Logic.{_↔_}
-use Prim.Native.Nat.{ℕ, zero, suc, _<_}
-use Rattle.enforcement.specs.Automaton.{Bytes, Transition, bit, locations, transitions}
+use Prim.Native.Nat.{ℕ, zero, suc}
+use Rattle.enforcement.specs.Automaton.{Bytes, Transition, transitions}
 use Rattle.retimer.specs.Steps.{One}
+use Rattle.retimer.specs.Locations.{Has, InSheet}
 
 -- A transition is for the action c and leads to the location m.
 abbrev pub Enters : ℕ → ℕ → Transition → Type 0
@@ -15,19 +15,11 @@ Enters c m t = (t .action ≡ c) × (t .target ≡ m)
 abbrev pub EntersFrom : Bytes → ℕ → ℕ → ℕ → Type 0
 EntersFrom s c l m = One (Enters c m) (transitions s l)
 
--- A set has a location.
-abbrev pub Has : ℕ → ℕ → Type 0
-Has places l = bit places l ≡ true
-
 -- One of the transitions of a location of a set is such.
 abbrev pub EntersFromAny : Bytes → ℕ → ℕ → ℕ → Type 0
 EntersFromAny s c places m = (l : ℕ) × Has places l × EntersFrom s c l m
 
--- A set of the automaton's locations.
-abbrev pub InSheet : Bytes → ℕ → Type 0
-InSheet s places = (l : ℕ) → Has places l → l < locations s
-
--- The set v has just the locations of which Q holds.
+-- The set v has just the locations of which Q holds, and they are the automaton's.
 pub record Gathered (s : Bytes) (Q : ℕ → Type 0) (v : ℕ) : Type 0 where
   pub in-sheet : InSheet s v
   pub right : (m : ℕ) → Has v m ↔ Q m

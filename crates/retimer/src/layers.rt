@@ -14,7 +14,8 @@ ghost use Rattle.enforcement.specs.Automaton.{locations, clocks, transitionAt};
 ghost use Rattle.enforcement.specs.Loading.{Loads, Fits};
 ghost use Rattle.enforcement.specs.Model.{top, width};
 ghost use Rattle.retimer.specs.Costs.{never, Ground};
-ghost use Rattle.retimer.specs.Targets.{Enters, EntersFrom, EntersFromAny, InSheet};
+ghost use Rattle.retimer.specs.Locations.{InSheet};
+ghost use Rattle.retimer.specs.Targets.{Enters, EntersFrom, EntersFromAny};
 ghost use Rattle.retimer.specs.Layers.{cellOf, tick, RowAsked, RowTicked, half, Range, Chosen, RowsTicked, AllTicked, LineAsked, RowLowered, BoxLowered, Now, Laying, Ready, Cleared, Took, Laid, Stretch, LocationWritten, AllWritten, AllLaid, OneLaid, Noting, AllNoting, Full, NotedFrom, Ended, LayersOf, Filled};
 
 // A table has the costs of as many locations.
@@ -421,7 +422,7 @@ fn lay_from(
     lay_all(s, cs, k, places, low2, high2, low, high, first, second);
 }
 
-// Each table has a frame of its own, as a memo has: the function calls itself with one more table, until there are four.
+// The memos of the actions after the first, in four tables. Each has a frame of its own, as a memo has: the function calls itself with one more table, until there are four.
 fn with_tables(
     s: &[u8],
     cs: &[u8],
@@ -456,7 +457,7 @@ fn with_tables(
 // configuration of a location: the search meets few of them, and nothing is done.
 pub fn layers(s: &[u8], cs: &[u8], l: u8, first: &mut [u16], second: &mut [u16])
     requires { ⌜ (Ground (now s) (now cs) (now first) (now second)) × (l < locations (now s)) ⌝ }
-    ensures { λ _. ⌜ (Ground (now (s .entry)) (now (cs .entry)) (now (first .exit)) (now (second .exit))) × (clocks (now (s .entry)) ≡ 2 → NotedFrom (now (s .entry)) (now (cs .entry)) l (now (first .exit)) (now (second .exit))) ⌝ }
+    ensures { λ _. ⌜ (Ground (now (s .entry)) (now (cs .entry)) (now (first .exit)) (now (second .exit))) × ((clocks (now (s .entry)) ≡ 1 → (now (first .exit) ≡ now (first .entry)) × (now (second .exit) ≡ now (second .entry))) × (clocks (now (s .entry)) ≡ 2 → NotedFrom (now (s .entry)) (now (cs .entry)) l (now (first .exit)) (now (second .exit)))) ⌝ }
 {
     if s[1] == 1 {
         return;

@@ -187,7 +187,7 @@ fn plan_few<'a>(
     plan_few(s, cs, l, r, t, out, &mut own, true)
 }
 
-// Any list, in the same way. On two clocks all that the memos can have is worked out first, so that the search finds each cost right after a reset at hand.
+// Any list, in the same way. On two clocks all that the search can ask the memos for is worked out first, so that it finds each cost right after a reset at hand.
 fn plan_many<'a>(
     s: &'a [u8],
     cs: &'a [u8],

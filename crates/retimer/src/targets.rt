@@ -4,7 +4,8 @@ use crate::locations;
 ghost use Prim.Native.Nat.{_<_};
 ghost use Rattle.enforcement.specs.Automaton.{locations};
 ghost use Rattle.enforcement.specs.Loading.{Loads};
-ghost use Rattle.retimer.specs.Targets.{EntersFrom, EntersFromAny, InSheet, Gathered};
+ghost use Rattle.retimer.specs.Locations.{InSheet};
+ghost use Rattle.retimer.specs.Targets.{EntersFrom, EntersFromAny, Gathered};
 
 // The targets of the transitions of location l for an action.
 pub fn of(s: &[u8], c: u8, l: usize) -> u16

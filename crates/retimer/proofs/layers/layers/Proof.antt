@@ -2,6 +2,7 @@
 use Rattle.enforcement.proofs.Loading.{pairs-fit}
 use native.Mathlib.Omega.{arith}
 use borrow.Author.Needs.{needs}
+use mathlib.Core.Path.{refl}
 use Rattle.retimer.proofs.LayingAll.{noted-from}
 use Rattle.retimer.proofs.layers.layers.Statement.{statement}
 use Rattle.retimer.proofs.layers.layers.Tie as tie
@@ -10,19 +11,19 @@ shared-slice-read-if1 : tie.Need-shared-slice-read-if1
 shared-slice-read-if1 c = omega (arith, pairs-fit (c .before .before .before .before .before .args .s .now) (c .before .before .before .before .before .pre .0 .loads))
 
 returns : tie.Need-returns
-returns c = (c .before .before .before .before .before .before .pre .0, λ e. absurd (omega arith))
+returns c = (c .before .before .before .before .before .before .pre .0, (λ e. (refl, refl), λ e. absurd (omega arith)))
 
 returns-2 : tie.Need-returns-2
-returns-2 c = (c .before .before .before .before .before .before .before .pre .0, λ e k l some soon way. absurd (omega (arith, c .if2 .taken)))
+returns-2 c = (c .before .before .before .before .before .before .before .pre .0, (λ e. (refl, refl), λ e k l some soon way. absurd (omega (arith, c .if2 .taken))))
 
 shared-slice-read-of : tie.Need-shared-slice-read-of
-shared-slice-read-of c = let f = c .before .if2 .left in omega arith
+shared-slice-read-of c = search needs
 
 wide-requires : tie.Need-wide-requires
 wide-requires c κs = search needs
 
 of-requires : tie.Need-of-requires
-of-requires c κs = (c .before .before .before .before .before .before .before .before .before .pre .0 .loads, omega (arith, c .wide .ensures .0, c .before .before .before .before .before .before .before .before .before .pre .1))
+of-requires c κs = search needs
 
 slice-aggregate-with-tables : tie.Need-slice-aggregate-with-tables
 slice-aggregate-with-tables c = search needs
@@ -47,7 +48,7 @@ same-length-2 c = search needs
 returns-3 : tie.Need-returns-3
 returns-3 c =
     let w = c .before .before .before .before .before .before .before .with-tables .ensures in
-    (w .ground, λ e. rw (c .before .before .before .before .before .before .before .before .before .before .before .before .before .before .wide .ensures .0) at (noted-from _ _ _ _ _ _ (c .before .before .before .before .before .before .before .before .before .before .before .before .before .of .ensures) w))
+    (w .ground, (λ e. absurd (c .before .before .before .before .before .before .before .before .before .before .before .before .before .before .before .before .before .if1 .left e), λ e. rw (c .before .before .before .before .before .before .before .before .before .before .before .before .before .before .wide .ensures .0) at (noted-from _ _ _ _ _ _ (c .before .before .before .before .before .before .before .before .before .before .before .before .before .of .ensures) w)))
 
 pub layers-spec : {M : Type 1} → statement M
 layers-spec =

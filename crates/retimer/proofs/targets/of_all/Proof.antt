@@ -1,7 +1,7 @@
 -- `targets::of_all` meets its contract. The invariant: the set has the targets of the locations before l. Assumes nothing.
 use borrow.Author.Needs.{needs}
 use native.Mathlib.Omega.{arith}
-use mathlib.Core.Path.{_≡_, sym, _∙_}
+use mathlib.Core.Path.{sym, _∙_}
 use mathlib.Core.Logic.{⊎-elim}
 use Prim.Native.Nat.{_-_, _<_}
 use Rattle.enforcement.specs.Automaton.{locations}
