@@ -13,9 +13,10 @@ use borrow.Author.Tests.{eqb-true, eqb-false}
 use Rattle.enforcement.specs.Automaton.{Bytes, accepting, locations}
 use Rattle.enforcement.specs.Model.{width}
 use Rattle.retimer.specs.Costs.{never, configuration, placeOf, Ground}
-use Rattle.retimer.specs.Locations.{Has, InSheet}
+use Rattle.retimer.specs.Row.{In}
+use Rattle.retimer.specs.Locations.{InSheet}
 use Rattle.retimer.specs.Targets.{EntersFrom, EntersFromAny, EntersAfter, Gathered}
-use Rattle.retimer.specs.Layers.{half, Chosen, Small, Laid, Layer, Laying, Ready, Cleared, LocationLaid, OneLaid, AllLaid, Noted, Full, NotedFrom, Lasts, Noting, AllNoting, Ended, LayersOf, Filled}
+use Rattle.retimer.specs.Layers.{half, Chosen, ChosenFrom, Small, Laid, Layer, Laying, Ready, Cleared, LocationLaid, OneLaid, AllLaid, Noted, Full, NotedFrom, Lasts, Noting, Ended, LayersOf, Filled}
 use Rattle.retimer.proofs.Arrays.{zero-at}
 use Rattle.retimer.proofs.CostLaws.{le-or-lt, end-cost}
 use Rattle.retimer.proofs.Prospects.{left-some}
@@ -55,37 +56,37 @@ parts-next {s} {cs} {l} {low} {high} {low′} {high′} p q i g = side (le-or-lt
 
 -- ---- The notes of all locations
 
-module _ {s cs : List ℕ} {k h : ℕ} {first second : List ℕ} where
-  pub notes-begun : {i places : ℕ} → Ground s cs first second → AllNoting s cs k h (Chosen i 0 places) first second first second
-  notes-begun g = record { first-kept = refl; second-kept = refl; ground = g; noted = λ m o. absurd (omega (arith, o .in-range)); first-lasts = λ i o. o; second-lasts = λ i o. o }
+module _ {s cs : List ℕ} {k h places : ℕ} {first second : List ℕ} where
+  pub notes-begun : Ground s cs first second → Noting s cs k (ChosenFrom h 0 places) first second first second
+  notes-begun g = record { first-kept = refl; second-kept = refl; ground = g; noted = λ l o. absurd (omega (arith, o .1 .in-range)); first-lasts = λ i o. o; second-lasts = λ i o. o }
 
-  module _ {places m : ℕ} {first′ second′ : List ℕ} (w : AllNoting s cs k h (Chosen h m places) first second first′ second′) where
-    pub notes-passed : (Has places (h + m) → ⊥) → AllNoting s cs k h (Chosen h (m + 1) places) first second first′ second′
-    notes-passed f = record { first-kept = w .first-kept; second-kept = w .second-kept; ground = w .ground; noted = λ n a. w .noted n (chosen-before f a); first-lasts = w .first-lasts; second-lasts = w .second-lasts }
+  module _ {m : ℕ} {first′ second′ : List ℕ} (w : Noting s cs k (ChosenFrom h m places) first second first′ second′) where
+    pub notes-passed : (In (h + m) places → ⊥) → Noting s cs k (ChosenFrom h (m + 1) places) first second first′ second′
+    notes-passed f = record { first-kept = w .first-kept; second-kept = w .second-kept; ground = w .ground; noted = λ l a. w .noted l (a .0, chosen-before f (a .1), a .2); first-lasts = w .first-lasts; second-lasts = w .second-lasts }
 
-    pub notes-next : {first″ second″ : List ℕ} → Noting s cs k (h + m) first′ second′ first″ second″ → AllNoting s cs k h (Chosen h (m + 1) places) first second first″ second″
+    pub notes-next : {first″ second″ : List ℕ} → Noting s cs k (λ (i : ℕ). i ≡ h + m) first′ second′ first″ second″ → Noting s cs k (ChosenFrom h (m + 1) places) first second first″ second″
     notes-next {first″} {second″} d = record {
       first-kept = d .first-kept ∙ w .first-kept;
       second-kept = d .second-kept ∙ w .second-kept;
       ground = d .ground;
-      noted = λ n a. go n (chosen-last a);
+      noted = λ l a. go l (a .0) (a .2) (chosen-last (a .1));
       first-lasts = λ j o. d .first-lasts j (w .first-lasts j o);
       second-lasts = λ j o. d .second-lasts j (w .second-lasts j o);
     }
       where
-        go : (n : ℕ) → (n ≡ m) ⊎ (Chosen h m places n × (n ≡ m → ⊥)) → Noted k (h + n) first″ second″
-        go n (inl e) = subst⁻¹ (λ (j : ℕ). Noted k (h + j) first″ second″) e (d .noted)
-        go n (inr o) = λ z u. let v = w .noted n (o .0) z u in (d .first-lasts (placeOf k (h + n) z) (v .0), d .second-lasts (placeOf k (h + n) z) (v .1))
+        go : (l n : ℕ) → h + n ≡ l → (n ≡ m) ⊎ (Chosen h m places n × (n ≡ m → ⊥)) → Noted k l first″ second″
+        go l n q (inl e) = d .noted l (let r : l ≡ h + m = omega arith in r)
+        go l n q (inr o) = λ z u. let v = w .noted l (n, o .0, q) z u in (d .first-lasts (placeOf k l z) (v .0), d .second-lasts (placeOf k l z) (v .1))
 
 -- ---- Both tables
 
 -- With the entries before the action k of all locations of a set, and those after it of all that it enters from there.
-full-by : (s cs : List ℕ) (k places : ℕ) (first₀ second₀ first second : List ℕ) → k < length cs → Lasts first₀ first → Lasts second₀ second → ((l : ℕ) → Has places l → Noted k l first second) → Full s cs (k + 1) (EntersFromAny s (getD cs k 0) places) first₀ second₀
-    → Full s cs k (Has places) first second
+full-by : (s cs : List ℕ) (k places : ℕ) (first₀ second₀ first second : List ℕ) → k < length cs → Lasts first₀ first → Lasts second₀ second → ((l : ℕ) → In l places → Noted k l first second) → Full s cs (k + 1) (EntersFromAny s (getD cs k 0) places) first₀ second₀
+    → Full s cs k (λ (l : ℕ). In l places) first second
 full-by s cs k places first₀ second₀ first second more one two noted full n i l soon has way = go n soon (subst (λ (ds : List ℕ). EntersAfter s ds n i l) (left-some cs k more) way)
   where
     go : (n : ℕ) → k + n < length cs → EntersAfter s (getD cs k 0 ∷ drop (k + 1) cs) n i l → Noted (k + n) l first second
-    go zero soon way = let e : k + zero ≡ k = omega arith in subst⁻¹ (λ (j : ℕ). Noted j l first second) e (noted l (subst (Has places) way has))
+    go zero soon way = let e : k + zero ≡ k = omega arith in subst⁻¹ (λ (j : ℕ). Noted j l first second) e (noted l (subst (λ (i : ℕ). In i places) way has))
     go (suc n) soon way =
         let e : k + suc n ≡ k + 1 + n = omega arith in
         let old = full n (way .0) l (omega arith) (i, has, way .1) (way .2) in
@@ -93,7 +94,7 @@ full-by s cs k places first₀ second₀ first second more one two noted full n 
 
 module _ {s cs : List ℕ} {k places : ℕ} {low high first₀ second₀ first second : List ℕ} (more : k < length cs) (inside : InSheet s places) (a : Ready 0 low) (b : Ready 0 high) (full : Full s cs (k + 1) (EntersFromAny s (getD cs k 0) places) first₀ second₀) where
   -- All are in the low one.
-  pub low-only : {n : ℕ} → n ≡ locations s → n ≤ half → AllLaid s (drop k cs) 0 (Chosen 0 n places) low → AllNoting s cs k 0 (Chosen 0 n places) first₀ second₀ first second → LayersOf s cs k places low high first second
+  pub low-only : {n : ℕ} → n ≡ locations s → n ≤ half → AllLaid s (drop k cs) 0 (Chosen 0 n places) low → Noting s cs k (ChosenFrom 0 n places) first₀ second₀ first second → LayersOf s cs k places low high first second
   low-only {n} e h g d = record {
     low-layer = record { size = a .size; laid = λ m i o. g m (record { in-range = omega (arith, inside (0 + m) o); has = o }) };
     high-layer = record { size = b .size; laid = λ m i o. absurd (omega (arith, inside (half + m) o)) };
@@ -103,12 +104,12 @@ module _ {s cs : List ℕ} {k places : ℕ} {low high first₀ second₀ first s
     full = full-by s cs k places first₀ second₀ first second more (d .first-lasts) (d .second-lasts) noted full;
   }
     where
-      noted : (l : ℕ) → Has places l → Noted k l first second
-      noted l o = let r : 0 + l ≡ l = omega arith in subst (λ (j : ℕ). Noted k j first second) r (d .noted l (record { in-range = omega (arith, inside l o); has = subst⁻¹ (Has places) r o }))
+      noted : (l : ℕ) → In l places → Noted k l first second
+      noted l o = let r : 0 + l ≡ l = omega arith in d .noted l (l, record { in-range = omega (arith, inside l o); has = subst⁻¹ (λ (i : ℕ). In i places) r o }, r)
 
   -- Some are in the high one.
   pub low-and-high : {n : ℕ} {first′ second′ : List ℕ} → n ≡ locations s → half < n → AllLaid s (drop k cs) 0 (Chosen 0 half places) low → AllLaid s (drop k cs) half (Chosen half (n - half) places) high
-      → AllNoting s cs k 0 (Chosen 0 half places) first₀ second₀ first′ second′ → AllNoting s cs k half (Chosen half (n - half) places) first′ second′ first second → LayersOf s cs k places low high first second
+      → Noting s cs k (ChosenFrom 0 half places) first₀ second₀ first′ second′ → Noting s cs k (ChosenFrom half (n - half) places) first′ second′ first second → LayersOf s cs k places low high first second
   low-and-high {n} {first′} {second′} e h g i d f = record {
     low-layer = record { size = a .size; laid = λ m j o. g m (record { in-range = j; has = o }) };
     high-layer = record { size = b .size; laid = λ m j o. i m (record { in-range = omega (arith, inside (half + m) o); has = o }) };
@@ -118,11 +119,11 @@ module _ {s cs : List ℕ} {k places : ℕ} {low high first₀ second₀ first s
     full = full-by s cs k places first₀ second₀ first second more (λ j o. f .first-lasts j (d .first-lasts j o)) (λ j o. f .second-lasts j (d .second-lasts j o)) (λ l o. side l o (le-or-lt half l)) full;
   }
     where
-      side : (l : ℕ) → Has places l → (half ≤ l) ⊎ (l < half) → Noted k l first second
-      side l o (inl q) = let r : half + (l - half) ≡ l = omega arith in subst (λ (j : ℕ). Noted k j first second) r (f .noted (l - half) (record { in-range = omega (arith, inside l o); has = subst⁻¹ (Has places) r o }))
+      side : (l : ℕ) → In l places → (half ≤ l) ⊎ (l < half) → Noted k l first second
+      side l o (inl q) = let r : half + (l - half) ≡ l = omega arith in f .noted l (l - half, record { in-range = omega (arith, inside l o); has = subst⁻¹ (λ (i : ℕ). In i places) r o }, r)
       side l o (inr q) = λ z u.
           let r : 0 + l ≡ l = omega arith in
-          let v = subst (λ (j : ℕ). Noted k j first′ second′) r (d .noted l (record { in-range = q; has = subst⁻¹ (Has places) r o })) z u in
+          let v = d .noted l (l, record { in-range = q; has = subst⁻¹ (λ (i : ℕ). In i places) r o }, r) z u in
           (f .first-lasts (placeOf k l z) (v .0), f .second-lasts (placeOf k l z) (v .1))
 
 -- ---- Where all is played
@@ -184,8 +185,8 @@ ready-none n e = record { in-half = omega arith; size = length-replicate n 0 ∙
 -- All is played after the last action.
 pub layers-ended : {s cs : List ℕ} {k places : ℕ} {low high first second : List ℕ} → k ≡ length cs → InSheet s places → Ended s low high → Ground s cs first second → LayersOf s cs k places low high first second
 layers-ended {s} {cs} {k} {places} {low} {high} e inside d g = record {
-  low-layer = subst⁻¹ (λ (ds : List ℕ). Layer s ds (Has places) 0 low) none (layer-of (d .low-layer) inside);
-  high-layer = subst⁻¹ (λ (ds : List ℕ). Layer s ds (Has places) half high) none (layer-of (d .high-layer) inside);
+  low-layer = subst⁻¹ (λ (ds : List ℕ). Layer s ds (λ (l : ℕ). In l places) 0 low) none (layer-of (d .low-layer) inside);
+  high-layer = subst⁻¹ (λ (ds : List ℕ). Layer s ds (λ (l : ℕ). In l places) half high) none (layer-of (d .high-layer) inside);
   low-small = d .low-small;
   high-small = d .high-small;
   ground = g;

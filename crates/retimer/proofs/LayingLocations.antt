@@ -10,6 +10,7 @@ use lib.Dec.{eqb}
 use lib.ListN.{length, getD, drop, set, length-drop, length-set}
 use lib.Seq.{getD-set-same, getD-set-other}
 use borrow.Author.Tests.{eqb-true, eqb-false}
+use Rattle.enforcement.specs.Limits.{maxCount}
 use Rattle.enforcement.specs.Automaton.{Transition, bit, enabled, locations, transitionAt, word}
 use Rattle.enforcement.specs.Loading.{Loads, Fits}
 use Rattle.enforcement.specs.TimedWord.{fire}
@@ -17,9 +18,9 @@ use Rattle.enforcement.specs.Model.{top, width}
 use Rattle.enforcement.proofs.Loading.{header}
 use Rattle.enforcement.proofs.Tests.{true-false}
 use Rattle.retimer.specs.Costs.{never, costAt, configuration, justReset, placeOf, Ground, Costed, AfterAsked}
-use Rattle.retimer.specs.Locations.{Has}
+use Rattle.retimer.specs.Row.{In}
 use Rattle.retimer.specs.Targets.{Enters, EntersFrom}
-use Rattle.retimer.specs.Layers.{half, cellOf, cell, Small, Layer, Laid, Range, Stretch, Chosen, AllTicked, Now, NowOne, BoxLowered, Laying, Ready, Cleared, Took, AtOnce, LocationWritten, AllWritten, AllLaid, Lasts, Noting}
+use Rattle.retimer.specs.Layers.{half, cellOf, cell, Small, Layer, Laid, Stretch, Chosen, AllTicked, Now, NowOne, BoxLowered, Laying, Ready, Cleared, Took, AtOnce, LocationWritten, AllWritten, AllLaid, Noted, Lasts, Noting}
 use Rattle.retimer.proofs.Left.{Left, left-whole, left-found, left-begun, left-inside, left-fits, left-next, left-none}
 use Rattle.retimer.proofs.Prospects.{left-some}
 use Rattle.retimer.proofs.CostLaws.{le-or-lt}
@@ -176,14 +177,14 @@ module _ {s cs : List ℕ} {k l : ℕ} {low high : List ℕ} (a : Laying s cs k 
 
 -- ---- All locations of a table
 
-pub range-of : {s : List ℕ} {h n : ℕ} → Loads s → Stretch s h n → Range h n
-range-of {s} loads a = record { in-half = a .in-half; in-count = let i = header s loads .locations-fit in omega (arith, a .in-sheet) }
+pub stretch-most : (s : List ℕ) {h n : ℕ} → Loads s → Stretch (locations s) h n → Stretch maxCount h n
+stretch-most s loads a = record { in-half = a .in-half; in-count = let i = header s loads .locations-fit in omega (arith, a .in-count) }
 
 pub writes-begun : {s : List ℕ} {c : ℕ} {cs : List ℕ} {h i places : ℕ} {table : List ℕ} → Small table → AllWritten s c cs h (Chosen i 0 places) table table
 writes-begun small = record { same-length = refl; small = small; at-once = λ m a. absurd (omega (arith, a .in-range)) }
 
 module _ {s : List ℕ} {c : ℕ} {cs : List ℕ} {h places m : ℕ} {table table′ : List ℕ} (w : AllWritten s c cs h (Chosen h m places) table table′) where
-  pub writes-passed : (Has places (h + m) → ⊥) → AllWritten s c cs h (Chosen h (m + 1) places) table table′
+  pub writes-passed : (In (h + m) places → ⊥) → AllWritten s c cs h (Chosen h (m + 1) places) table table′
   writes-passed f = record { same-length = w .same-length; small = w .small; at-once = λ n a. w .at-once n (chosen-before f a) }
 
   pub writes-next : {next : List ℕ} → LocationWritten s c cs (h + m) m table′ next → AllWritten s c cs h (Chosen h (m + 1) places) table next
@@ -213,8 +214,8 @@ pub record InNote (s cs : List ℕ) (k l : ℕ) (first₀ second₀ first second
 pub note-begun : {s cs : List ℕ} {k l : ℕ} {first second : List ℕ} → Ground s cs first second → InNote s cs k l first second first second 0
 note-begun g = record { z-fits = omega arith; ground = g; first-kept = refl; second-kept = refl; noted = λ y h. absurd (omega arith); first-lasts = λ i h. h; second-lasts = λ i h. h }
 
-pub note-done : {s cs : List ℕ} {k l : ℕ} {first₀ second₀ first second : List ℕ} {z : ℕ} → InNote s cs k l first₀ second₀ first second z → width ≤ z → Noting s cs k l first₀ second₀ first second
-note-done w h = record { first-kept = w .first-kept; second-kept = w .second-kept; ground = w .ground; noted = λ z k. w .noted z (omega arith); first-lasts = w .first-lasts; second-lasts = w .second-lasts }
+pub note-done : {s cs : List ℕ} {k l : ℕ} {first₀ second₀ first second : List ℕ} {z : ℕ} → InNote s cs k l first₀ second₀ first second z → width ≤ z → Noting s cs k (λ (i : ℕ). i ≡ l) first₀ second₀ first second
+note-done {s} {cs} {k} {l} {first₀} {second₀} {first} {second} w h = record { first-kept = w .first-kept; second-kept = w .second-kept; ground = w .ground; noted = λ i e. subst⁻¹ (λ (j : ℕ). Noted k j first second) e (λ z o. w .noted z (omega arith)); first-lasts = w .first-lasts; second-lasts = w .second-lasts }
 
 -- An entry that is written is there, and the others are as before.
 entry-lasts : (memo : List ℕ) (i v j : ℕ) → i < length memo → 0 < getD memo j 0 → 0 < getD (set memo i (v + 1)) j 0

@@ -12,7 +12,7 @@ use lib.Seq.{getD-set-same, getD-set-other}
 use borrow.Author.Tests.{eqb-true, eqb-false}
 use Rattle.enforcement.specs.Model.{top, width}
 use Rattle.retimer.specs.Costs.{never}
-use Rattle.retimer.specs.Locations.{Has}
+use Rattle.retimer.specs.Row.{In}
 use Rattle.retimer.proofs.CostLaws.{le-or-lt}
 use Rattle.retimer.specs.Layers.{cellOf, cell, tick, Small, RowAsked, RowTicked, Ticked, Chosen, RowsTicked, AllTicked, RowLowered}
 
@@ -161,8 +161,8 @@ module _ {h places m n : ℕ} where
       by true e = inl (eqb-true n m e)
       by false e = let f : n ≡ m → ⊥ = eqb-false n m e in inr (record { in-range = omega (arith, a .in-range); has = a .has }, f)
 
-  pub chosen-before : (Has places (h + m) → ⊥) → Chosen h (m + 1) places n → Chosen h m places n
-  chosen-before f a = ⊎-elim (λ e. absurd (f (subst (λ (j : ℕ). Has places (h + j)) e (a .has)))) (λ o. o .0) (chosen-last a)
+  pub chosen-before : (In (h + m) places → ⊥) → Chosen h (m + 1) places n → Chosen h m places n
+  chosen-before f a = ⊎-elim (λ e. absurd (f (subst (λ (j : ℕ). In (h + j) places) e (a .has)))) (λ o. o .0) (chosen-last a)
 
 -- ---- One row of all locations
 
@@ -192,15 +192,15 @@ pub rows-begun : {h places y : ℕ} {table : List ℕ} → Small table → RowsT
 rows-begun small = record { same-length = refl; small = small; ticked = λ m x a k. absurd (omega (arith, a .in-range)); same = λ m x z f k l. refl }
 
 module _ {h places m y : ℕ} {table table′ : List ℕ} (w : RowsTicked (Chosen h m places) y table table′) where
-  pub rows-passed : (Has places (h + m) → ⊥) → RowsTicked (Chosen h (m + 1) places) y table table′
+  pub rows-passed : (In (h + m) places → ⊥) → RowsTicked (Chosen h (m + 1) places) y table table′
   rows-passed f = record { same-length = w .same-length; small = w .small; ticked = λ n x a k. w .ticked n x (chosen-before f a) k; same = λ n x z g k l. w .same n x z (⊎-elim (λ o. inl (λ a. o (chosen-wider a))) inr g) k l }
 
-  pub rows-next : {next : List ℕ} → Has places (h + m) → y ≤ top → RowTicked (cellOf m 0 y) (cellOf m 0 (tick y)) table′ next → RowsTicked (Chosen h (m + 1) places) y table next
+  pub rows-next : {next : List ℕ} → In (h + m) places → y ≤ top → RowTicked (cellOf m 0 y) (cellOf m 0 (tick y)) table′ next → RowsTicked (Chosen h (m + 1) places) y table next
   rows-next {next} has y-fits r = record {
     same-length = r .same-length ∙ w .same-length;
     small = row-small r (w .small);
     ticked = λ n x a k. go n x k (chosen-last a);
-    same = λ n x z f k l. row-others r y-fits n x z (⊎-elim (λ g. inl (λ e. g (record { in-range = omega arith; has = subst⁻¹ (λ (j : ℕ). Has places (h + j)) e has }))) inr f) k l ∙ w .same n x z (⊎-elim (λ g. inl (λ a. g (chosen-wider a))) inr f) k l;
+    same = λ n x z f k l. row-others r y-fits n x z (⊎-elim (λ g. inl (λ e. g (record { in-range = omega arith; has = subst⁻¹ (λ (j : ℕ). In (h + j) places) e has }))) inr f) k l ∙ w .same n x z (⊎-elim (λ g. inl (λ a. g (chosen-wider a))) inr f) k l;
   }
     where
       own : (x : ℕ) → x ≤ top → Ticked m x y table next
@@ -221,35 +221,35 @@ module _ {h places m y : ℕ} {table table′ : List ℕ} (w : RowsTicked (Chose
 -- ---- All rows
 
 -- The rows from y on are done.
-pub record InTicks (C : ℕ → Type 0) (y : ℕ) (table table′ : List ℕ) : Type 0 where
+pub record InTicks (P : ℕ → Type 0) (y : ℕ) (table table′ : List ℕ) : Type 0 where
   pub y-fits : y ≤ width
   pub same-length : length table′ ≡ length table
   pub small : Small table′
-  pub done : (m x z : ℕ) → C m → x ≤ top → y ≤ z → z ≤ top → Ticked m x z table table′
-  pub rest : (m x z : ℕ) → (C m → ⊥) ⊎ (z < y) → x ≤ top → z ≤ top → cell table′ m x z ≡ cell table m x z
+  pub done : (m x z : ℕ) → P m → x ≤ top → y ≤ z → z ≤ top → Ticked m x z table table′
+  pub rest : (m x z : ℕ) → z < y → x ≤ top → z ≤ top → cell table′ m x z ≡ cell table m x z
 
-module _ {C : ℕ → Type 0} {table : List ℕ} where
-  pub ticks-begun : Small table → InTicks C width table table
+module _ {P : ℕ → Type 0} {table : List ℕ} where
+  pub ticks-begun : Small table → InTicks P width table table
   ticks-begun small = record { y-fits = omega arith; same-length = refl; small = small; done = λ m x z g h k l. absurd (omega arith); rest = λ m x z f h k. refl }
 
-  module _ {y : ℕ} {table′ : List ℕ} (w : InTicks C y table table′) where
-    pub ticks-done : y ≤ 0 → AllTicked C table table′
-    ticks-done h = record { same-length = w .same-length; small = w .small; ticked = λ m x z g k l. w .done m x z g k (omega arith) l; same = λ m x z g k l. w .rest m x z (inl g) k l }
+  module _ {y : ℕ} {table′ : List ℕ} (w : InTicks P y table table′) where
+    pub ticks-done : y ≤ 0 → AllTicked P table table′
+    ticks-done h = record { same-length = w .same-length; small = w .small; ticked = λ m x z g k l. w .done m x z g k (omega arith) l }
 
-    pub ticks-next : {next : List ℕ} → 0 < y → RowsTicked C (y - 1) table′ next → InTicks C (y - 1) table next
+    pub ticks-next : {next : List ℕ} → 0 < y → RowsTicked P (y - 1) table′ next → InTicks P (y - 1) table next
     ticks-next {next} some r = record {
       y-fits = let f = w .y-fits in omega arith;
       same-length = r .same-length ∙ w .same-length;
       small = r .small;
       done = λ m x z g h k l. go m x z g h k l (eqb z (y - 1)) refl;
-      rest = λ m x z f h k. r .same m x z (⊎-elim inl (λ g. inr (λ e. omega arith)) f) h k ∙ w .rest m x z (⊎-elim inl (λ g. inr (omega arith)) f) h k;
+      rest = λ m x z f h k. r .same m x z (inr (λ e. omega arith)) h k ∙ w .rest m x z (omega arith) h k;
     }
       where
-        go : (m x z : ℕ) → C m → x ≤ top → y - 1 ≤ z → z ≤ top → (b : Bool) → eqb z (y - 1) ≡ b → Ticked m x z table next
+        go : (m x z : ℕ) → P m → x ≤ top → y - 1 ≤ z → z ≤ top → (b : Bool) → eqb z (y - 1) ≡ b → Ticked m x z table next
         go m x z g h k l true e =
             let f : z ≡ y - 1 = eqb-true z (y - 1) e in
             let a : Ticked m x z table′ next = subst⁻¹ (λ (j : ℕ). Ticked m x j table′ next) f (r .ticked m x g h) in
-            let d = w .rest m x z (inr (omega arith)) h l in
+            let d = w .rest m x z (omega arith) h l in
             omega arith
         go m x z g h k l false e =
             let f : z ≡ y - 1 → ⊥ = eqb-false z (y - 1) e in

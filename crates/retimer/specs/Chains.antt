@@ -8,7 +8,8 @@ use lib.ListN.{length, getD, drop}
 use Rattle.enforcement.specs.Limits.{maxCount}
 use Rattle.enforcement.specs.Automaton.{Bytes, Transition, bit, locations, transitions}
 use Rattle.enforcement.specs.Model.{top, width}
-use Rattle.retimer.specs.Locations.{Has, InSheet, Added}
+use Rattle.retimer.specs.Row.{In}
+use Rattle.retimer.specs.Locations.{InSheet, Added}
 use Rattle.retimer.specs.Steps.{One}
 use Rattle.retimer.specs.Waits.{saturation, along}
 use Rattle.retimer.specs.Next.{LeadsFor}
@@ -17,7 +18,7 @@ use Rattle.retimer.specs.Costs.{never, EndsBy, justReset, Ground}
 -- A location of a set of which G holds.
 pub record Member (places : ℕ) (G : ℕ → Type 0) : Type 0 where
   pub location : ℕ
-  pub present : Has places location
+  pub present : In location places
   pub holds : G location
 
 -- Along the diagonal of x and y, with the actions cs left: the least so far, or a location that is reached, at its position, ends by w.
@@ -28,7 +29,7 @@ Covers s cs x y here places best w = (best ≤ w) ⊎ Member places (λ (l : ℕ
 pub record Chain (s : Bytes) (x y : ℕ) (here : List ℕ) (places best : ℕ) : Type 0 where
   pub each : length here ≡ maxCount
   pub in-sheet : InSheet s places
-  pub on-diagonal : (l : ℕ) → Has places l → getD here l 0 ≤ saturation x y
+  pub on-diagonal : (l : ℕ) → In l places → getD here l 0 ≤ saturation x y
   pub best-most : best ≤ never
 
 -- A state of the search: the action k is next, on the diagonal of x and y.
@@ -44,8 +45,8 @@ pub record Arrived (here : List ℕ) (places t u : ℕ) (next : List ℕ) (place
   pub same-length : length next ≡ length here
   pub others : (l : ℕ) → (l ≡ t → ⊥) → getD next l 0 ≡ getD here l 0
   pub soon : getD next t 0 ≤ u
-  pub sooner : Has places t → getD next t 0 ≤ getD here t 0
-  pub either : (getD next t 0 ≡ u) ⊎ (Has places t × (getD next t 0 ≡ getD here t 0))
+  pub sooner : In t places → getD next t 0 ≤ getD here t 0
+  pub either : (getD next t 0 ≡ u) ⊎ (In t places × (getD next t 0 ≡ getD here t 0))
 
 -- ---- Resets
 

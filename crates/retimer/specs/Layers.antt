@@ -11,7 +11,7 @@ use Rattle.enforcement.specs.TimedWord.{fire}
 use Rattle.enforcement.specs.Loading.{Loads}
 use Rattle.enforcement.specs.Model.{top, width}
 use Rattle.retimer.specs.Steps.{One}
-use Rattle.retimer.specs.Locations.{Has}
+use Rattle.retimer.specs.Row.{In}
 use Rattle.retimer.specs.Targets.{EntersAfter}
 use Rattle.retimer.specs.Costs.{never, costAt, configuration, placeOf, Ground}
 
@@ -64,15 +64,19 @@ pub record RowTicked (here above : ℕ) (table table′ : List ℕ) : Type 0 whe
 abbrev pub Ticked : ℕ → ℕ → ℕ → List ℕ → List ℕ → Type 0
 Ticked m x y table table′ = cell table′ m x y ≡ min (cell table m x y) (suc (cell table′ m (tick x) (tick y)))
 
--- As many as n locations from h on are within the limits, and a table can hold them.
-pub record Range (h n : ℕ) : Type 0 where
+-- Of `count` locations there are n from h on, and a table can hold them.
+pub record Stretch (count h n : ℕ) : Type 0 where
   pub in-half : n ≤ half
-  pub in-count : h + n ≤ maxCount
+  pub in-count : h + n ≤ count
 
 -- Of n locations from h on, the one at the place m of their table is chosen: it is in a set.
 pub record Chosen (h n places m : ℕ) : Type 0 where
   pub in-range : m < n
-  pub has : Has places (h + m)
+  pub has : In (h + m) places
+
+-- A location is one of these.
+abbrev pub ChosenFrom : ℕ → ℕ → ℕ → ℕ → Type 0
+ChosenFrom h n places l = (m : ℕ) × Chosen h n places m × (h + m ≡ l)
 
 -- The row y of each location at a place with P is ticked, and all else is as before.
 pub record RowsTicked (P : ℕ → Type 0) (y : ℕ) (table table′ : List ℕ) : Type 0 where
@@ -81,12 +85,11 @@ pub record RowsTicked (P : ℕ → Type 0) (y : ℕ) (table table′ : List ℕ)
   pub ticked : (m x : ℕ) → P m → x ≤ top → Ticked m x y table table′
   pub same : (m x z : ℕ) → (P m → ⊥) ⊎ (z ≡ y → ⊥) → x ≤ top → z ≤ top → cell table′ m x z ≡ cell table m x z
 
--- All rows of each location at a place with P are ticked, and all else is as before.
+-- All rows of each location at a place with P are ticked.
 pub record AllTicked (P : ℕ → Type 0) (table table′ : List ℕ) : Type 0 where
   pub same-length : length table′ ≡ length table
   pub small : Small table′
   pub ticked : (m x y : ℕ) → P m → x ≤ top → y ≤ top → Ticked m x y table table′
-  pub same : (m x y : ℕ) → (P m → ⊥) → x ≤ top → y ≤ top → cell table′ m x y ≡ cell table m x y
 
 -- A table has, at its place m, the costs of the location l with the actions cs left.
 abbrev pub Laid : Bytes → List ℕ → ℕ → ℕ → List ℕ → Type 0
@@ -159,11 +162,6 @@ pub record LocationWritten (s : Bytes) (c : ℕ) (cs : List ℕ) (l m : ℕ) (ta
   pub small : Small table′
   pub at-once : AtOnce s c cs l m table′
 
--- The automaton has n locations from h on, and a table can hold them.
-pub record Stretch (s : Bytes) (h n : ℕ) : Type 0 where
-  pub in-half : n ≤ half
-  pub in-sheet : h + n ≤ locations s
-
 -- A table has, at its places with P, what the action c costs at once at those of the locations from h on.
 pub record AllWritten (s : Bytes) (c : ℕ) (cs : List ℕ) (h : ℕ) (P : ℕ → Type 0) (table table′ : List ℕ) : Type 0 where
   pub same-length : length table′ ≡ length table
@@ -195,21 +193,12 @@ NotedFrom s cs i first second = (k l : ℕ) → 1 ≤ k → k < length cs → En
 abbrev pub Lasts : List ℕ → List ℕ → Type 0
 Lasts memo memo′ = (i : ℕ) → 0 < getD memo i 0 → 0 < getD memo′ i 0
 
--- The memos are right, with the entries of one more location, and none is lost.
-pub record Noting (s cs : List ℕ) (k l : ℕ) (first second first′ second′ : List ℕ) : Type 0 where
+-- The memos are right, with the entries of all locations with C, and none is lost.
+pub record Noting (s cs : List ℕ) (k : ℕ) (C : ℕ → Type 0) (first second first′ second′ : List ℕ) : Type 0 where
   pub first-kept : length first′ ≡ length first
   pub second-kept : length second′ ≡ length second
   pub ground : Ground s cs first′ second′
-  pub noted : Noted k l first′ second′
-  pub first-lasts : Lasts first first′
-  pub second-lasts : Lasts second second′
-
--- The same with the entries of those of the locations from h on that are at places with P.
-pub record AllNoting (s cs : List ℕ) (k h : ℕ) (P : ℕ → Type 0) (first second first′ second′ : List ℕ) : Type 0 where
-  pub first-kept : length first′ ≡ length first
-  pub second-kept : length second′ ≡ length second
-  pub ground : Ground s cs first′ second′
-  pub noted : (m : ℕ) → P m → Noted k (h + m) first′ second′
+  pub noted : (l : ℕ) → C l → Noted k l first′ second′
   pub first-lasts : Lasts first first′
   pub second-lasts : Lasts second second′
 
@@ -222,14 +211,14 @@ pub record Ended (s low high : List ℕ) : Type 0 where
 
 -- The tables have the costs of the locations of a set from the action k on, and the memos are right and have the entries of all that can be entered from there.
 pub record LayersOf (s cs : List ℕ) (k places : ℕ) (low high first second : List ℕ) : Type 0 where
-  pub low-layer : Layer s (drop k cs) (Has places) 0 low
-  pub high-layer : Layer s (drop k cs) (Has places) half high
+  pub low-layer : Layer s (drop k cs) (λ (l : ℕ). In l places) 0 low
+  pub high-layer : Layer s (drop k cs) (λ (l : ℕ). In l places) half high
   pub low-small : Small low
   pub high-small : Small high
   pub ground : Ground s cs first second
-  pub full : Full s cs k (Has places) first second
+  pub full : Full s cs k (λ (l : ℕ). In l places) first second
 
 -- The memos are right, and have the entries of all locations that can be entered from a set by the actions after the first.
 pub record Filled (s cs : List ℕ) (places : ℕ) (first second : List ℕ) : Type 0 where
   pub ground : Ground s cs first second
-  pub full : Full s cs 1 (Has places) first second
+  pub full : Full s cs 1 (λ (l : ℕ). In l places) first second

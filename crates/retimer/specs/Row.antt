@@ -6,7 +6,7 @@ use Prim.Native.Nat.{ℕ, _+_, _^_, _≤_, _<_, min}
 use Rattle.enforcement.specs.Automaton.{bit}
 use Rattle.enforcement.specs.Model.{top, width}
 
--- A reading is in a row.
+-- A reading is in a row, or a location in a set of locations.
 abbrev pub In : ℕ → ℕ → Type 0
 In x row = bit row x ≡ true
 

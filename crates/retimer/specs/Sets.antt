@@ -14,6 +14,7 @@ use Rattle.enforcement.specs.TimedWord.{Configuration, step}
 use Rattle.enforcement.specs.Model.{top, width, advance}
 use Rattle.retimer.specs.Steps.{One}
 use Rattle.retimer.specs.Row.{In}
+use Rattle.retimer.specs.Locations.{InSheet}
 
 -- ---- Membership
 
@@ -209,7 +210,7 @@ Covers s places set = (l x i : ℕ) → i < height s → Marked (height s) set l
 -- The set has members at just the places, which are locations of the automaton.
 pub record Reached (s : Bytes) (set : List ℕ) (places : ℕ) : Type 0 where
   pub whole : Whole s set
-  pub known : (l : ℕ) → In l places → l < locations s
+  pub known : InSheet s places
   pub members : (l : ℕ) → In l places ↔ ((q : Configuration) × (q .location ≡ l) × Contains s set q)
 
 -- After some wait the action leads from a member to the configuration.

@@ -5,7 +5,8 @@ use mathlib.Core.Logic.{_↔_}
 use Prim.Native.Nat.{ℕ, zero, suc}
 use Rattle.enforcement.specs.Automaton.{Bytes, Transition, transitions}
 use Rattle.retimer.specs.Steps.{One}
-use Rattle.retimer.specs.Locations.{Has, InSheet}
+use Rattle.retimer.specs.Row.{In}
+use Rattle.retimer.specs.Locations.{InSheet}
 
 -- A transition is for the action c and leads to the location m.
 abbrev pub Enters : ℕ → ℕ → Transition → Type 0
@@ -17,12 +18,12 @@ EntersFrom s c l m = One (Enters c m) (transitions s l)
 
 -- One of the transitions of a location of a set is such.
 abbrev pub EntersFromAny : Bytes → ℕ → ℕ → ℕ → Type 0
-EntersFromAny s c places m = (l : ℕ) × Has places l × EntersFrom s c l m
+EntersFromAny s c places m = (l : ℕ) × In l places × EntersFrom s c l m
 
 -- The set v has just the locations of which Q holds, and they are the automaton's.
 pub record Gathered (s : Bytes) (Q : ℕ → Type 0) (v : ℕ) : Type 0 where
   pub in-sheet : InSheet s v
-  pub right : (m : ℕ) → Has v m ↔ Q m
+  pub right : (m : ℕ) → In m v ↔ Q m
 
 -- The first n of the actions cs can lead from the location i to m.
 abbrev pub EntersAfter : Bytes → List ℕ → ℕ → ℕ → ℕ → Type 0

@@ -10,13 +10,14 @@ ghost use mathlib.Core.Bool.{cond};
 ghost use mathlib.Core.List.{[]};
 ghost use Prim.Native.Nat.{ℕ, _+_, _*_, _≤_, _<_, min};
 ghost use lib.ListN.{length, getD, drop, set};
+ghost use Rattle.enforcement.specs.Limits.{maxCount};
 ghost use Rattle.enforcement.specs.Automaton.{locations, clocks, transitionAt};
 ghost use Rattle.enforcement.specs.Loading.{Loads, Fits};
 ghost use Rattle.enforcement.specs.Model.{top, width};
 ghost use Rattle.retimer.specs.Costs.{never, Ground};
 ghost use Rattle.retimer.specs.Locations.{InSheet};
 ghost use Rattle.retimer.specs.Targets.{Enters, EntersFrom, EntersFromAny};
-ghost use Rattle.retimer.specs.Layers.{cellOf, tick, RowAsked, RowTicked, half, Range, Chosen, RowsTicked, AllTicked, LineAsked, RowLowered, BoxLowered, Now, Laying, Ready, Cleared, Took, Laid, Stretch, LocationWritten, AllWritten, AllLaid, OneLaid, Noting, AllNoting, Full, NotedFrom, Ended, LayersOf, Filled};
+ghost use Rattle.retimer.specs.Layers.{cellOf, tick, RowAsked, RowTicked, half, Stretch, Chosen, ChosenFrom, RowsTicked, AllTicked, LineAsked, RowLowered, BoxLowered, Now, Laying, Ready, Cleared, Took, Laid, LocationWritten, AllWritten, AllLaid, OneLaid, Noting, Full, NotedFrom, Ended, LayersOf, Filled};
 
 // A table has the costs of as many locations.
 const HALF: usize = Monitor::COUNT / 2;
@@ -85,7 +86,7 @@ fn tick_at(table: &mut [u16], m: usize, y: usize)
 
 // The row y of each location that is chosen.
 fn tick_rows(table: &mut [u16], h: usize, n: usize, places: u16, y: usize)
-    requires { ⌜ ((Ready 0 (now table)) × (y ≤ top)) × (Range h n) ⌝ }
+    requires { ⌜ ((Ready 0 (now table)) × (y ≤ top)) × (Stretch maxCount h n) ⌝ }
     ensures { λ _. ⌜ RowsTicked (Chosen h n places) y (now (table .entry)) (now (table .exit)) ⌝ }
 {
     let mut m = 0;
@@ -99,7 +100,7 @@ fn tick_rows(table: &mut [u16], h: usize, n: usize, places: u16, y: usize)
 
 // All rows of the locations that are chosen. A row is done for all of them before the row that reads it: one that was just written is slow to read.
 fn ticks(table: &mut [u16], h: usize, n: usize, places: u16)
-    requires { ⌜ (Ready 0 (now table)) × (Range h n) ⌝ }
+    requires { ⌜ (Ready 0 (now table)) × (Stretch maxCount h n) ⌝ }
     ensures { λ _. ⌜ AllTicked (Chosen h n places) (now (table .entry)) (now (table .exit)) ⌝ }
 {
     let mut y = Monitor::WIDTH;
@@ -252,7 +253,7 @@ fn write_all(
     high: &[u16],
     table: &mut [u16],
 )
-    requires { ⌜ (Laying (now s) (now cs) k (EntersFromAny (now s) (getD (now cs) k 0) places) (now low) (now high)) × ((Stretch (now s) h n) × (Ready 0 (now table))) ⌝ }
+    requires { ⌜ (Laying (now s) (now cs) k (EntersFromAny (now s) (getD (now cs) k 0) places) (now low) (now high)) × ((Stretch (locations (now s)) h n) × (Ready 0 (now table))) ⌝ }
     ensures { λ _. ⌜ AllWritten (now (s .entry)) (getD (now (cs .entry)) k 0) (drop (k + 1) (now (cs .entry))) h (Chosen h n places) (now (table .entry)) (now (table .exit)) ⌝ }
 {
     let mut m = 0;
@@ -276,7 +277,7 @@ fn note(
     second: &mut [u16],
 )
     requires { ⌜ (((1 ≤ k) × (k < length (now cs))) × (l < locations (now s))) × (((Ready m (now table)) × (Laid (now s) (drop k (now cs)) l m (now table))) × (Ground (now s) (now cs) (now first) (now second))) ⌝ }
-    ensures { λ _. ⌜ Noting (now (s .entry)) (now (cs .entry)) k l (now (first .entry)) (now (second .entry)) (now (first .exit)) (now (second .exit)) ⌝ }
+    ensures { λ _. ⌜ Noting (now (s .entry)) (now (cs .entry)) k (λ (i : ℕ). i ≡ l) (now (first .entry)) (now (second .entry)) (now (first .exit)) (now (second .exit)) ⌝ }
 {
     let base = costs::place(k, l as u8, 0);
     let mut z = 0;
@@ -301,8 +302,8 @@ fn note_all(
     first: &mut [u16],
     second: &mut [u16],
 )
-    requires { ⌜ (((1 ≤ k) × (k < length (now cs))) × (Stretch (now s) h n)) × (((Ready 0 (now table)) × (AllLaid (now s) (drop k (now cs)) h (Chosen h n places) (now table))) × (Ground (now s) (now cs) (now first) (now second))) ⌝ }
-    ensures { λ _. ⌜ AllNoting (now (s .entry)) (now (cs .entry)) k h (Chosen h n places) (now (first .entry)) (now (second .entry)) (now (first .exit)) (now (second .exit)) ⌝ }
+    requires { ⌜ (((1 ≤ k) × (k < length (now cs))) × (Stretch (locations (now s)) h n)) × (((Ready 0 (now table)) × (AllLaid (now s) (drop k (now cs)) h (Chosen h n places) (now table))) × (Ground (now s) (now cs) (now first) (now second))) ⌝ }
+    ensures { λ _. ⌜ Noting (now (s .entry)) (now (cs .entry)) k (ChosenFrom h n places) (now (first .entry)) (now (second .entry)) (now (first .exit)) (now (second .exit)) ⌝ }
 {
     let mut m = 0;
     while m < n {
@@ -327,8 +328,8 @@ fn lay_some(
     first: &mut [u16],
     second: &mut [u16],
 )
-    requires { ⌜ ((Laying (now s) (now cs) k (EntersFromAny (now s) (getD (now cs) k 0) places) (now low) (now high)) × ((1 ≤ k) × (Stretch (now s) h n))) × ((Ready 0 (now table)) × (Ground (now s) (now cs) (now first) (now second))) ⌝ }
-    ensures { λ _. ⌜ ((Ready 0 (now (table .exit))) × (AllLaid (now (s .entry)) (drop k (now (cs .entry))) h (Chosen h n places) (now (table .exit)))) × (AllNoting (now (s .entry)) (now (cs .entry)) k h (Chosen h n places) (now (first .entry)) (now (second .entry)) (now (first .exit)) (now (second .exit))) ⌝ }
+    requires { ⌜ ((Laying (now s) (now cs) k (EntersFromAny (now s) (getD (now cs) k 0) places) (now low) (now high)) × ((1 ≤ k) × (Stretch (locations (now s)) h n))) × ((Ready 0 (now table)) × (Ground (now s) (now cs) (now first) (now second))) ⌝ }
+    ensures { λ _. ⌜ ((Ready 0 (now (table .exit))) × (AllLaid (now (s .entry)) (drop k (now (cs .entry))) h (Chosen h n places) (now (table .exit)))) × (Noting (now (s .entry)) (now (cs .entry)) k (ChosenFrom h n places) (now (first .entry)) (now (second .entry)) (now (first .exit)) (now (second .exit))) ⌝ }
 {
     write_all(s, cs, k, h, n, places, low, high, table);
     ticks(table, h, n, places);
@@ -434,7 +435,7 @@ fn with_tables(
     first: &mut [u16],
     second: &mut [u16],
 )
-    requires { ⌜ (((Ground (now s) (now cs) (now first) (now second)) × ((1 ≤ length (now cs)) × (InSheet (now s) places))) × (n ≤ 3)) × ((1 ≤ n → Ready 0 (now low)) × ((2 ≤ n → Ready 0 (now high)) × (3 ≤ n → Ready 0 (now low2)))) ⌝ }
+    requires { ⌜ ((Ground (now s) (now cs) (now first) (now second)) × ((1 ≤ length (now cs)) × (InSheet (now s) places))) × ((1 ≤ n → Ready 0 (now low)) × ((2 ≤ n → Ready 0 (now high)) × (3 ≤ n → Ready 0 (now low2)))) ⌝ }
     ensures { λ _. ⌜ Filled (now (s .entry)) (now (cs .entry)) places (now (first .exit)) (now (second .exit)) ⌝ }
 {
     let mut own = [0u16; SIZE];

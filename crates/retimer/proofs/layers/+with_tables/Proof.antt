@@ -35,7 +35,7 @@ with-tables-slice-aggregate-with-tables t c = refl
 with-tables-with-tables-requires : (t : ℕ) → with-tables-lts.Need-with-tables-requires (with-tables-calls t) (with-tables-at t) with-tables.Post
 with-tables-with-tables-requires t c κs =
     let a = c .before .before .before .before .before .before .before .before .before .before .before .before .before in
-    (omega (arith, a .pre .0), ((a .pre .1 .0 .0, omega arith), ((λ h. ready-none (half * (width * width)) (omega arith)), ((λ h. absurd (omega arith)), (λ h. absurd (omega arith))))))
+    (omega (arith, a .pre .0), (a .pre .1 .0, ((λ h. ready-none (half * (width * width)) (omega arith)), ((λ h. absurd (omega arith)), (λ h. absurd (omega arith))))))
 
 with-tables-same-length : (t : ℕ) → with-tables-lts.Need-same-length (with-tables-calls t) (with-tables-at t) with-tables.Post
 with-tables-same-length t c = search needs
@@ -58,7 +58,7 @@ with-tables-slice-aggregate-with-tables-2 t c = refl
 with-tables-with-tables-requires-2 : (t : ℕ) → with-tables-lts.Need-with-tables-requires-2 (with-tables-calls t) (with-tables-at t) with-tables.Post
 with-tables-with-tables-requires-2 t c κs =
     let a = c .before .before .before .before .before .before .before .before .before .before .before .before .before .before in
-    (omega (arith, a .pre .0), ((a .pre .1 .0 .0, omega arith), ((λ h. a .pre .1 .1 .0 (omega arith)), ((λ h. ready-none (half * (width * width)) (omega arith)), (λ h. absurd (omega arith))))))
+    (omega (arith, a .pre .0), (a .pre .1 .0, ((λ h. a .pre .1 .1 .0 (omega arith)), ((λ h. ready-none (half * (width * width)) (omega arith)), (λ h. absurd (omega arith))))))
 
 with-tables-same-length-5 : (t : ℕ) → with-tables-lts.Need-same-length-5 (with-tables-calls t) (with-tables-at t) with-tables.Post
 with-tables-same-length-5 t c = search needs
@@ -81,7 +81,7 @@ with-tables-slice-aggregate-with-tables-3 t c = refl
 with-tables-with-tables-requires-3 : (t : ℕ) → with-tables-lts.Need-with-tables-requires-3 (with-tables-calls t) (with-tables-at t) with-tables.Post
 with-tables-with-tables-requires-3 t c κs =
     let a = c .before .before .before .before .before .before .before .before .before .before .before .before .before .before .before in
-    (omega (arith, a .pre .0), ((a .pre .1 .0 .0, omega arith), ((λ h. a .pre .1 .1 .0 (omega arith)), ((λ h. a .pre .1 .1 .1 .0 (omega arith)), (λ h. ready-none (half * (width * width)) (omega arith))))))
+    (omega (arith, a .pre .0), (a .pre .1 .0, ((λ h. a .pre .1 .1 .0 (omega arith)), ((λ h. a .pre .1 .1 .1 .0 (omega arith)), (λ h. ready-none (half * (width * width)) (omega arith))))))
 
 with-tables-same-length-9 : (t : ℕ) → with-tables-lts.Need-same-length-9 (with-tables-calls t) (with-tables-at t) with-tables.Post
 with-tables-same-length-9 t c = search needs
@@ -104,11 +104,10 @@ with-tables-slice-aggregate-lay-from t c = refl
 with-tables-lay-from-requires : (t : ℕ) → with-tables-lts.Need-lay-from-requires (with-tables-calls t) (with-tables-at t) with-tables.Post
 with-tables-lay-from-requires t c κs =
     let a = c .before .before .before .before .before .before .before .before .before .before .before .before .before .before .before .before in
-    let q = a .pre .1 .0 .1 in
     let f = c .before .before .before .before .before .before .before .before .if1 .left in
     let g = c .before .before .before .before .before .before .before .if2 .left in
     let h = c .before .before .before .before .before .before .if3 .left in
-    ((a .pre .1 .0 .0 .0, ((omega arith, a .pre .1 .0 .0 .1 .0), a .pre .1 .0 .0 .1 .1)), ((a .pre .1 .1 .0 (omega arith), a .pre .1 .1 .1 .0 (omega arith)), (a .pre .1 .1 .1 .1 (omega arith), ready-none (half * (width * width)) (omega arith))))
+    ((a .pre .1 .0 .0, ((omega arith, a .pre .1 .0 .1 .0), a .pre .1 .0 .1 .1)), ((a .pre .1 .1 .0 (omega arith), a .pre .1 .1 .1 .0 (omega arith)), (a .pre .1 .1 .1 .1 (omega arith), ready-none (half * (width * width)) (omega arith))))
 
 with-tables-same-length-13 : (t : ℕ) → with-tables-lts.Need-same-length-13 (with-tables-calls t) (with-tables-at t) with-tables.Post
 with-tables-same-length-13 t c = search needs

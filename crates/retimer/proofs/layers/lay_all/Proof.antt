@@ -15,7 +15,7 @@ wide-requires c κs = search needs
 lay-some-requires : tie.Need-lay-some-requires
 lay-some-requires c κs =
     let a = c .before .before .before .before .before .before .before .before .before .before .before .before .before .before in
-    ((a .pre .0 .0, (a .pre .0 .1 .0, record { in-half = omega arith; in-sheet = omega (arith, c .before .before .before .before .wide .ensures .0) })), (a .pre .1 .0 .0, a .pre .1 .1 .0))
+    ((a .pre .0 .0, (a .pre .0 .1 .0, record { in-half = omega arith; in-count = omega (arith, c .before .before .before .before .wide .ensures .0) })), (a .pre .1 .0 .0, a .pre .1 .1 .0))
 
 same-length : tie.Need-same-length
 same-length c = search needs
@@ -35,7 +35,7 @@ returns c =
 lay-some-requires-2 : tie.Need-lay-some-requires-2
 lay-some-requires-2 c κs =
     let a = c .before .before .before .before .before .before .before .before .before .before .before .before .before .before in
-    ((a .pre .0 .0, (a .pre .0 .1 .0, record { in-half = omega arith; in-sheet = omega (arith, c .before .before .before .before .wide .ensures .0) })), (a .pre .1 .0 .0, a .pre .1 .1 .0))
+    ((a .pre .0 .0, (a .pre .0 .1 .0, record { in-half = omega arith; in-count = omega (arith, c .before .before .before .before .wide .ensures .0) })), (a .pre .1 .0 .0, a .pre .1 .1 .0))
 
 sub-lay-some : tie.Need-sub-lay-some
 sub-lay-some c = search needs
@@ -44,7 +44,7 @@ lay-some-requires-3 : tie.Need-lay-some-requires-3
 lay-some-requires-3 c κs =
     let a = c .before .before .before .before .before .before .before .before .before .before .before .before .before .before .before .before .before .before .before .before .before .before .before .before in
     let n = header (a .args .s .now) (a .pre .0 .0 .loads) .locations-fit in
-    ((a .pre .0 .0, (a .pre .0 .1 .0, record { in-half = omega (arith, c .before .before .before .before .before .before .before .before .before .before .before .before .before .before .wide .ensures .0); in-sheet = omega (arith, c .before .before .before .before .before .before .before .before .before .before .before .before .before .before .wide .ensures .0) })), (a .pre .1 .0 .1, c .before .before .before .before .before .before .before .before .before .lay-some2 .ensures .1 .ground))
+    ((a .pre .0 .0, (a .pre .0 .1 .0, record { in-half = omega (arith, c .before .before .before .before .before .before .before .before .before .before .before .before .before .before .wide .ensures .0); in-count = omega (arith, c .before .before .before .before .before .before .before .before .before .before .before .before .before .before .wide .ensures .0) })), (a .pre .1 .0 .1, c .before .before .before .before .before .before .before .before .before .lay-some2 .ensures .1 .ground))
 
 same-length-4 : tie.Need-same-length-4
 same-length-4 c = search needs

@@ -2,7 +2,7 @@
 use native.Mathlib.Omega.{arith}
 use borrow.Author.Needs.{needs}
 use mathlib.Core.Path.{_∙_}
-use Rattle.retimer.proofs.LayingLocations.{range-of, all-laid}
+use Rattle.retimer.proofs.LayingLocations.{stretch-most, all-laid}
 use Rattle.retimer.proofs.layers.lay_some.Statement.{statement}
 use Rattle.retimer.proofs.layers.lay_some.Tie as tie
 
@@ -12,7 +12,7 @@ write-all-requires c κs = search needs
 ticks-requires : tie.Need-ticks-requires
 ticks-requires c κs =
     let w = c .before .before .before .write-all .ensures in
-    (record { in-half = omega arith; size = w .same-length ∙ c .before .before .before .before .before .before .before .before .before .before .before .before .pre .1 .0 .size; small = w .small }, range-of (c .before .before .before .before .before .before .before .before .before .before .before .before .pre .0 .0 .loads) (c .before .before .before .before .before .before .before .before .before .before .before .before .pre .0 .1 .1))
+    (record { in-half = omega arith; size = w .same-length ∙ c .before .before .before .before .before .before .before .before .before .before .before .before .pre .1 .0 .size; small = w .small }, stretch-most _ (c .before .before .before .before .before .before .before .before .before .before .before .before .pre .0 .0 .loads) (c .before .before .before .before .before .before .before .before .before .before .before .before .pre .0 .1 .1))
 
 note-all-requires : tie.Need-note-all-requires
 note-all-requires c κs =

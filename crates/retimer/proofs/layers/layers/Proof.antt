@@ -37,7 +37,7 @@ slice-aggregate-with-tables-3 c = search needs
 with-tables-requires : tie.Need-with-tables-requires
 with-tables-requires c κs =
     let f = c .before .before .before .before .before .before .before .before .if2 .left in
-    (((c .before .before .before .before .before .before .before .before .before .before .before .before .before .before .before .pre .0, (omega arith, c .before .before .before .before .before .of .ensures .in-sheet)), omega arith), (λ h. absurd (omega arith), (λ h. absurd (omega arith), λ h. absurd (omega arith))))
+    ((c .before .before .before .before .before .before .before .before .before .before .before .before .before .before .before .pre .0, (omega arith, c .before .before .before .before .before .of .ensures .in-sheet)), (λ h. absurd (omega arith), (λ h. absurd (omega arith), λ h. absurd (omega arith))))
 
 same-length : tie.Need-same-length
 same-length c = search needs

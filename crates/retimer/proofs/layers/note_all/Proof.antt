@@ -6,13 +6,13 @@ use mathlib.Core.Logic.{⊎-elim}
 use Prim.Native.Nat.{ℕ, _-_, _≤_}
 use Rattle.enforcement.proofs.Loading.{header}
 use Rattle.enforcement.proofs.Tests.{true-false}
-use Rattle.retimer.specs.Layers.{Chosen, AllNoting}
+use Rattle.retimer.specs.Layers.{ChosenFrom, Noting}
 use Rattle.retimer.proofs.LayingAll.{notes-begun, notes-passed, notes-next}
 use Rattle.retimer.proofs.layers.note_all.Statement.{statement}
 use Rattle.retimer.proofs.layers.note_all.Tie as tie
 
 abbrev Inv-loop : tie.InvT-loop
-Inv-loop s cs k h n places table first₀ second₀ m₀ first second m = AllNoting s cs k h (Chosen h m places) first₀ second₀ first second × (m ≤ n)
+Inv-loop s cs k h n places table first₀ second₀ m₀ first second m = Noting s cs k (ChosenFrom h m places) first₀ second₀ first second × (m ≤ n)
 
 abbrev μ-loop : tie.MeasureT-loop
 μ-loop s cs k h n places table first₀ second₀ m₀ first second m = n - m
@@ -23,23 +23,23 @@ loop-holds c = (notes-begun (c .before .before .before .before .before .pre .1 .
 add-has : tie.Need-add-has Inv-loop μ-loop
 add-has c =
     let i = header (c .before .before .before .before .before .before .before .args .s .now) (c .before .before .before .before .before .before .before .pre .1 .1 .loads) .locations-fit in
-    omega (arith, c .before .before .before .before .before .before .before .pre .0 .1 .in-sheet)
+    omega (arith, c .before .before .before .before .before .before .before .pre .0 .1 .in-count)
 
 has-requires : tie.Need-has-requires Inv-loop μ-loop
 has-requires c κs =
     let i = header (c .before .before .before .before .before .before .before .args .s .now) (c .before .before .before .before .before .before .before .pre .1 .1 .loads) .locations-fit in
-    omega (arith, c .before .before .before .before .before .before .before .pre .0 .1 .in-sheet)
+    omega (arith, c .before .before .before .before .before .before .before .pre .0 .1 .in-count)
 
 add-note : tie.Need-add-note Inv-loop μ-loop
 add-note c =
     let i = header (c .before .before .before .before .before .before .before .before .before .args .s .now) (c .before .before .before .before .before .before .before .before .before .pre .1 .1 .loads) .locations-fit in
-    omega (arith, c .before .before .before .before .before .before .before .before .before .pre .0 .1 .in-sheet, c .before .before .loop-test .taken)
+    omega (arith, c .before .before .before .before .before .before .before .before .before .pre .0 .1 .in-count, c .before .before .loop-test .taken)
 
 note-requires : tie.Need-note-requires Inv-loop μ-loop
 note-requires c κs =
     let a = c .before .before .before .before .before .before .before .before .before .before .before in
     let o = c .before .before .before .before .loop-test .taken in (
-      (a .pre .0 .0, omega (arith, a .pre .0 .1 .in-sheet)),
+      (a .pre .0 .0, omega (arith, a .pre .0 .1 .in-count)),
       (
         (record { in-half = omega (arith, a .pre .0 .1 .in-half); size = a .pre .1 .0 .0 .size; small = a .pre .1 .0 .0 .small }, a .pre .1 .0 .1 (c .before .before .before .before .before .loop .m) (record { in-range = o; has = sym (c .before .before .before .has .ensures) ∙ c .before .before .if1 .taken })),
         c .before .before .before .before .before .loop .inv .0 .ground,
@@ -72,7 +72,7 @@ returns : tie.Need-returns Inv-loop μ-loop
 returns c =
     let a = c .before .before .before .before .before .before .before in
     let e : c .before .loop .m ≡ a .args .n = omega (arith, c .before .loop .inv .1, c .loop-test .left) in
-    subst (λ (i : ℕ). AllNoting (a .args .s .now) (a .args .cs .now) (a .args .k) (a .args .h) (Chosen (a .args .h) i (a .args .places)) (a .args .first .now) (a .args .second .now) (c .before .loop .first) (c .before .loop .second)) e (c .before .loop .inv .0)
+    subst (λ (i : ℕ). Noting (a .args .s .now) (a .args .cs .now) (a .args .k) (ChosenFrom (a .args .h) i (a .args .places)) (a .args .first .now) (a .args .second .now) (c .before .loop .first) (c .before .loop .second)) e (c .before .loop .inv .0)
 
 pub note-all-spec : {M : Type 1} → statement M
 note-all-spec =

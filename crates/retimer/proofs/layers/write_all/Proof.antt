@@ -24,23 +24,23 @@ loop-holds c = (writes-begun (c .before .before .before .before .before .pre .1 
 add-has : tie.Need-add-has Inv-loop μ-loop
 add-has c =
     let i = header (c .before .before .before .before .before .before .before .args .s .now) (c .before .before .before .before .before .before .before .pre .0 .loads) .locations-fit in
-    omega (arith, c .before .before .before .before .before .before .before .pre .1 .0 .in-sheet)
+    omega (arith, c .before .before .before .before .before .before .before .pre .1 .0 .in-count)
 
 has-requires : tie.Need-has-requires Inv-loop μ-loop
 has-requires c κs =
     let i = header (c .before .before .before .before .before .before .before .args .s .now) (c .before .before .before .before .before .before .before .pre .0 .loads) .locations-fit in
-    omega (arith, c .before .before .before .before .before .before .before .pre .1 .0 .in-sheet)
+    omega (arith, c .before .before .before .before .before .before .before .pre .1 .0 .in-count)
 
 add-write : tie.Need-add-write Inv-loop μ-loop
 add-write c =
     let i = header (c .before .before .before .before .before .before .before .before .before .args .s .now) (c .before .before .before .before .before .before .before .before .before .pre .0 .loads) .locations-fit in
-    omega (arith, c .before .before .before .before .before .before .before .before .before .pre .1 .0 .in-sheet, c .before .before .loop-test .taken)
+    omega (arith, c .before .before .before .before .before .before .before .before .before .pre .1 .0 .in-count, c .before .before .loop-test .taken)
 
 write-requires : tie.Need-write-requires Inv-loop μ-loop
 write-requires c κs =
     let a = c .before .before .before .before .before .before .before .before .before .before in (
       laying-of (a .pre .0) (λ t o. (a .args .h + c .before .before .before .before .loop .m, sym (c .before .before .has .ensures) ∙ c .before .if1 .taken, o)),
-      (omega (arith, a .pre .1 .0 .in-sheet, c .before .before .before .loop-test .taken), record { in-half = omega (arith, a .pre .1 .0 .in-half, c .before .before .before .loop-test .taken); size = c .before .before .before .before .loop .inv .0 .same-length ∙ a .pre .1 .1 .size; small = c .before .before .before .before .loop .inv .0 .small }),
+      (omega (arith, a .pre .1 .0 .in-count, c .before .before .before .loop-test .taken), record { in-half = omega (arith, a .pre .1 .0 .in-half, c .before .before .before .loop-test .taken); size = c .before .before .before .before .loop .inv .0 .same-length ∙ a .pre .1 .1 .size; small = c .before .before .before .before .loop .inv .0 .small }),
     )
 
 add-m : tie.Need-add-m Inv-loop μ-loop
