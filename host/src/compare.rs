@@ -1,4 +1,5 @@
-//! Compares a desk program with this library over random inputs.
+//! Compares a desk program with this library over random inputs, and over some
+//! that use up the numbers.
 
 use crate::desk;
 use crate::generate::Kind;
@@ -12,6 +13,14 @@ use std::{env, fmt, fs, process, thread};
 /// What was compared without a difference.
 #[derive(Debug, Default)]
 pub struct Summary {
+    pub random: Part,
+    /// The inputs that use up the numbers.
+    pub used_up: Part,
+}
+
+/// Some of the inputs, and their lines.
+#[derive(Debug, Default)]
+pub struct Part {
     pub inputs: u64,
     pub tally: Tally,
     /// How many runs ended with an exit status other than 0.
@@ -25,6 +34,8 @@ pub enum Stop {
     NotRun(io::Error),
     /// The outputs differ.
     Difference(Box<Difference>),
+    /// The lines of the library do not show what an input is there for.
+    Pointless { kind: &'static str, missing: String },
 }
 
 /// The first difference.
@@ -74,7 +85,7 @@ pub fn compare<'a>(
 ) -> Result<Summary, Stop> {
     let mut summary = Summary::default();
     for kind in kinds {
-        for seed in (0..seeds).map(|step| first_seed.wrapping_add(step)) {
+        for seed in kind.seeds(first_seed, seeds) {
             compare_one(program, kind, seed, &mut summary)?;
         }
     }
@@ -84,15 +95,25 @@ pub fn compare<'a>(
 fn compare_one(program: &Path, kind: &Kind, seed: u64, summary: &mut Summary) -> Result<(), Stop> {
     let case = Case::new(kind, seed);
     let expected = desk::run(&case.input);
+    if let Some(look) = kind.look {
+        look(&case.input, &expected).map_err(|missing| Stop::Pointless {
+            kind: kind.name,
+            missing,
+        })?;
+    }
     let found = run(program, &case.input, &case.cuts).map_err(Stop::NotRun)?;
     // No exit status means that the program was broken off.
     if found.stdout != expected.as_bytes() || found.status.code().is_none() {
         let difference = difference(case, &expected, &found);
         return Err(Stop::Difference(Box::new(difference)));
     }
-    summary.inputs += 1;
-    summary.tally.add(&expected);
-    summary.unsuccessful += u64::from(!found.status.success());
+    let part = match kind.look {
+        Some(_) => &mut summary.used_up,
+        None => &mut summary.random,
+    };
+    part.inputs += 1;
+    part.tally.add(&expected);
+    part.unsuccessful += u64::from(!found.status.success());
     Ok(())
 }
 
@@ -168,10 +189,11 @@ impl fmt::Display for Difference {
     }
 }
 
-impl fmt::Display for Summary {
-    fn fmt(&self, out: &mut fmt::Formatter<'_>) -> fmt::Result {
-        let lines = self.tally.lines();
-        writeln!(out, "no difference: {} inputs, {lines} lines", self.inputs)?;
+impl Part {
+    /// Tells how many inputs, which are called so, and how often each answer came.
+    fn show(&self, inputs: &str, out: &mut fmt::Formatter<'_>) -> fmt::Result {
+        let (count, lines) = (self.inputs, self.tally.lines());
+        writeln!(out, "no difference: {count} {inputs}, {lines} lines")?;
         for (name, count) in self.tally.all() {
             writeln!(out, "{count:>10}  {name}")?;
         }
@@ -181,6 +203,19 @@ impl fmt::Display for Summary {
                 "{:>10}  runs with another exit status than 0",
                 self.unsuccessful
             )?;
+        }
+        Ok(())
+    }
+}
+
+impl fmt::Display for Summary {
+    fn fmt(&self, out: &mut fmt::Formatter<'_>) -> fmt::Result {
+        let used_up = self.used_up.inputs > 0;
+        if self.random.inputs > 0 || !used_up {
+            self.random.show("inputs", out)?;
+        }
+        if used_up {
+            self.used_up.show("inputs that use up the numbers", out)?;
         }
         Ok(())
     }

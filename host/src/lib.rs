@@ -20,3 +20,4 @@ pub mod runs;
 pub mod sets;
 pub mod sheet;
 pub mod tally;
+pub mod used_up;

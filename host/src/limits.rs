@@ -8,5 +8,7 @@ pub const MAX_BOUND: u8 = 30;
 pub const MAX_SCHEDULED: usize = 32;
 /// Most transitions of an automaton.
 pub const MAX_TRANSITIONS: usize = 64;
+/// Most offers that get a number.
+pub const MAX_NUMBERED: u32 = 1_000_000;
 /// Last date that a call or a correction may have.
 pub const LAST_DATE: u32 = 1_000_000_000;

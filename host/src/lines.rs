@@ -16,10 +16,12 @@ pub fn push_answer(lines: &mut Vec<u8>, answer: &Answer) {
             push_word(lines, *count as u32);
         }
         Answer::Dropped => lines.extend_from_slice(b" dropped"),
-        Answer::Played(timed) => {
+        Answer::Played(played) => {
             lines.extend_from_slice(b" played");
-            push_word(lines, timed.action.into());
-            push_word(lines, timed.date);
+            push_word(lines, played.action.into());
+            push_word(lines, played.date);
+            push_word(lines, played.number);
+            push_word(lines, played.offered);
         }
         Answer::Nothing => lines.extend_from_slice(b" none"),
         Answer::Refused(refusal) => {

@@ -1,10 +1,49 @@
 //! The box: its state and its calls offer, collect and lamp.
 
 use crate::decide::{can_continue, decide, Decision};
-use crate::limits::{LAST_DATE, MAX_PENDING, MAX_SCHEDULED};
+use crate::limits::{LAST_DATE, MAX_NUMBERED, MAX_PENDING, MAX_SCHEDULED};
 use crate::refusal::Refusal;
 use crate::runs::{beginning, Reached, TimedAction};
 use crate::sheet::Automaton;
+
+/// An action that is held, with the number and the date of its offer.
+#[derive(Clone, Copy, Debug, PartialEq, Eq)]
+pub struct PendingAction {
+    pub action: u8,
+    pub number: u32,
+    pub offered: u32,
+}
+
+/// An action with its date, and with the number and the date of its offer.
+#[derive(Clone, Copy, Debug, PartialEq, Eq)]
+pub struct ScheduledAction {
+    pub action: u8,
+    pub date: u32,
+    pub number: u32,
+    pub offered: u32,
+}
+
+impl PendingAction {
+    /// The same with the date that a correction gives it.
+    fn at(self, date: u32) -> ScheduledAction {
+        ScheduledAction {
+            action: self.action,
+            date,
+            number: self.number,
+            offered: self.offered,
+        }
+    }
+}
+
+impl ScheduledAction {
+    /// What it is in a run.
+    pub fn timed(&self) -> TimedAction {
+        TimedAction {
+            action: self.action,
+            date: self.date,
+        }
+    }
+}
 
 /// The answer to an offer or a collection.
 #[derive(Clone, Copy, Debug, PartialEq, Eq)]
@@ -17,7 +56,7 @@ pub enum Answer {
     /// How many actions are pending now.
     Held(usize),
     Dropped,
-    Played(TimedAction),
+    Played(ScheduledAction),
     Nothing,
     Refused(Refusal),
 }
@@ -28,9 +67,11 @@ pub enum Answer {
 pub struct Monitor {
     automaton: Automaton,
     date: u32,
-    pending: Vec<u8>,
-    history: Vec<TimedAction>,
+    pending: Vec<PendingAction>,
+    history: Vec<ScheduledAction>,
     played: usize,
+    /// How many offers have a number; these are 1, 2 and so on.
+    numbered: u32,
     /// Where the last action ever scheduled led, and its date.
     reached: Reached,
 }
@@ -45,6 +86,7 @@ impl Monitor {
             pending: Vec::new(),
             history: Vec::new(),
             played: 0,
+            numbered: 0,
             reached,
         }
     }
@@ -57,18 +99,23 @@ impl Monitor {
         self.date
     }
 
-    /// The actions that are held, oldest first.
-    pub fn pending(&self) -> &[u8] {
+    /// What is held, oldest first.
+    pub fn pending(&self) -> &[PendingAction] {
         &self.pending
     }
 
+    /// The actions that are held, oldest first.
+    pub fn pending_actions(&self) -> Vec<u8> {
+        self.pending.iter().map(|held| held.action).collect()
+    }
+
     /// Everything ever scheduled, oldest first.
-    pub fn history(&self) -> &[TimedAction] {
+    pub fn history(&self) -> &[ScheduledAction] {
         &self.history
     }
 
     /// What is scheduled and not yet played, oldest first.
-    pub fn schedule(&self) -> &[TimedAction] {
+    pub fn schedule(&self) -> &[ScheduledAction] {
         &self.history[self.played..]
     }
 
@@ -100,7 +147,8 @@ impl Monitor {
 
     /// Whether the lamp is lit: nothing that can still come satisfies.
     pub fn lamp(&self) -> bool {
-        !can_continue(&self.automaton, self.reached, &self.pending, self.date)
+        let pending = self.pending_actions();
+        !can_continue(&self.automaton, self.reached, &pending, self.date)
     }
 
     fn try_offer(&mut self, action: u8, date: u32) -> Result<Answer, Refusal> {
@@ -108,13 +156,22 @@ impl Monitor {
             return Err(Refusal::I7);
         }
         self.check_date(date)?;
-        let mut list = self.pending.clone();
-        list.push(action);
-        let answer = match decide(&self.automaton, self.reached, &list, date) {
-            Decision::Correct(timing) => self.schedule_all(&list, &timing)?,
-            Decision::Hold => self.hold(action)?,
+        if self.numbered == MAX_NUMBERED {
+            return Err(Refusal::S5);
+        }
+        let mut actions = self.pending_actions();
+        actions.push(action);
+        let offer = PendingAction {
+            action,
+            number: self.numbered + 1,
+            offered: date,
+        };
+        let answer = match decide(&self.automaton, self.reached, &actions, date) {
+            Decision::Correct(timing) => self.schedule_all(offer, &timing)?,
+            Decision::Hold => self.hold(offer)?,
             Decision::Drop => Answer::Dropped,
         };
+        self.numbered = offer.number;
         self.date = date;
         Ok(answer)
     }
@@ -130,37 +187,34 @@ impl Monitor {
         }
     }
 
-    /// Adds a correction to the schedule and empties the pending list.
-    fn schedule_all(&mut self, list: &[u8], timing: &[u32]) -> Result<Answer, Refusal> {
-        let last = timing[timing.len() - 1];
+    /// Adds a correction of the pending list and an offer to the schedule, and
+    /// empties the list.
+    fn schedule_all(&mut self, offer: PendingAction, timing: &[u32]) -> Result<Answer, Refusal> {
+        let (count, last) = (timing.len(), timing[timing.len() - 1]);
         // The correction has the least last date, so all others end late too.
         if last > LAST_DATE {
             return Err(Refusal::S2);
         }
         let free = MAX_SCHEDULED - self.schedule().len();
-        if list.len() > free {
+        if count > free {
             return Err(Refusal::S3);
         }
-        let pairs = list.iter().zip(timing);
-        let batch: Vec<TimedAction> = pairs
-            .map(|(&action, &date)| TimedAction { action, date })
-            .collect();
-        let reached = self.reached.follow(&self.automaton, &batch);
+        self.pending.push(offer);
+        let pairs = self.pending.drain(..).zip(timing);
+        let batch: Vec<ScheduledAction> = pairs.map(|(held, date)| held.at(*date)).collect();
+        let run: Vec<TimedAction> = batch.iter().map(ScheduledAction::timed).collect();
+        let reached = self.reached.follow(&self.automaton, &run);
         self.reached = reached.expect("a correction can be followed");
         self.history.extend(batch);
-        self.pending.clear();
-        Ok(Answer::Scheduled {
-            count: list.len(),
-            last,
-        })
+        Ok(Answer::Scheduled { count, last })
     }
 
-    /// Adds an action to the pending list.
-    fn hold(&mut self, action: u8) -> Result<Answer, Refusal> {
+    /// Adds an offer to the pending list.
+    fn hold(&mut self, offer: PendingAction) -> Result<Answer, Refusal> {
         if self.pending.len() == MAX_PENDING {
             return Err(Refusal::S4);
         }
-        self.pending.push(action);
+        self.pending.push(offer);
         Ok(Answer::Held(self.pending.len()))
     }
 }

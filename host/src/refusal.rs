@@ -17,6 +17,7 @@ pub enum Refusal {
     S2,
     S3,
     S4,
+    S5,
 }
 
 impl Refusal {
@@ -35,6 +36,7 @@ impl Refusal {
             Refusal::S2 => "S-2",
             Refusal::S3 => "S-3",
             Refusal::S4 => "S-4",
+            Refusal::S5 => "S-5",
         }
     }
 }

@@ -45,9 +45,18 @@ fn names(line: &str) -> Vec<String> {
         ["sheet", "refused", reason] => vec![format!("sheet refused {reason}")],
         ["sheet", ..] => vec!["sheet loaded".into()],
         ["tail", bytes] => vec![format!("tail {bytes}")],
-        [_, answer @ .., "lamp", lamp] => vec![answer_name(answer), format!("lamp {lamp}")],
+        [_, answer @ .., "lamp", lamp] => {
+            let later = is_later(answer).then(|| "played later than offered".into());
+            let names = [answer_name(answer), format!("lamp {lamp}")];
+            names.into_iter().chain(later).collect()
+        }
         _ => vec!["other".into()],
     }
+}
+
+/// Whether an action is played whose date is not that of its offer.
+fn is_later(answer: &[&str]) -> bool {
+    matches!(answer, ["played", _, date, _, offered] if date != offered)
 }
 
 /// The name of an answer, with the reason or the size of a batch.

@@ -3,17 +3,13 @@
 
 mod common;
 
-use common::{dates, fresh, input, lines, refused, scheduled, sheet_of, COLLECT};
+use common::{dates, fresh, input, lines, played, refused, run_of, scheduled, sheet_of, COLLECT};
 use host::course::{A, B, C, D, E};
 use host::desk;
 use host::limits::LAST_DATE;
 use host::monitor::Answer;
 use host::refusal::Refusal;
-use host::runs::{beginning, satisfies, TimedAction};
-
-fn played(action: u8, date: u32) -> Answer {
-    Answer::Played(TimedAction { action, date })
-}
+use host::runs::{beginning, satisfies};
 
 #[test]
 fn too_few_bytes() {
@@ -93,7 +89,7 @@ fn edges_of_first_checks() {
     assert_eq!(monitor.offer(0, 2), refused(Refusal::S1));
     assert_eq!(monitor.collect(2), refused(Refusal::S1));
     assert_eq!(monitor.collect(LAST_DATE + 1), refused(Refusal::I8));
-    assert_eq!(monitor.collect(LAST_DATE), played(1, 3));
+    assert_eq!(monitor.collect(LAST_DATE), played(1, 3, 1, 3));
     assert_eq!(monitor.offer(0, LAST_DATE + 1), refused(Refusal::I8));
     assert_eq!(monitor.offer(0, LAST_DATE), scheduled(1, LAST_DATE));
     assert_eq!(monitor.collect(LAST_DATE - 1), refused(Refusal::S1));
@@ -119,7 +115,8 @@ fn s2_leaves_the_date() {
     let before = monitor.clone();
     assert_eq!(monitor.offer(1, LAST_DATE), refused(Refusal::S2));
     assert_eq!(monitor, before);
-    assert_eq!(monitor.collect(LAST_DATE - 1), played(1, LAST_DATE - 1));
+    let last = LAST_DATE - 1;
+    assert_eq!(monitor.collect(last), played(1, last, 1, last));
     // Exactly five ticks before the last date a second one fits.
     let mut monitor = fresh(A);
     assert_eq!(monitor.offer(1, LAST_DATE - 5), scheduled(1, LAST_DATE - 5));
@@ -154,7 +151,7 @@ fn s3_leaves_the_date() {
     let before = monitor.clone();
     assert_eq!(monitor.offer(0, 7), refused(Refusal::S3));
     assert_eq!(monitor, before);
-    assert_eq!(monitor.collect(3), played(0, 0));
+    assert_eq!(monitor.collect(3), played(0, 0, 1, 0));
 }
 
 #[test]
@@ -195,7 +192,7 @@ fn s2_before_s3() {
     assert_eq!(monitor.offer(1, LAST_DATE), refused(Refusal::S2));
     assert_eq!(monitor.offer(0, LAST_DATE), refused(Refusal::S3));
     // A free place lifts S-3 but not S-2.
-    assert_eq!(monitor.collect(LAST_DATE), played(0, 0));
+    assert_eq!(monitor.collect(LAST_DATE), played(0, 0, 1, 0));
     assert_eq!(monitor.offer(1, LAST_DATE), refused(Refusal::S2));
     assert_eq!(monitor.offer(0, LAST_DATE), scheduled(1, LAST_DATE));
 }
@@ -215,8 +212,8 @@ fn s3_counts_the_whole_batch() {
     // One place is free. Holding needs none; the batch of two does not fit.
     assert_eq!(monitor.offer(0, 0), Answer::Held(1));
     assert_eq!(monitor.offer(0, 0), refused(Refusal::S3));
-    assert_eq!(monitor.pending(), [0]);
-    assert_eq!(monitor.collect(0), played(1, 0));
+    assert_eq!(monitor.pending_actions(), [0]);
+    assert_eq!(monitor.collect(0), played(1, 0, 1, 0));
     assert_eq!(monitor.offer(0, 0), scheduled(2, 0));
     assert_eq!(monitor.schedule().len(), 32);
 }
@@ -227,9 +224,9 @@ fn collections_one_by_one() {
     assert_eq!(monitor.collect(0), Answer::Nothing);
     assert_eq!(monitor.offer(0, 2), Answer::Held(1));
     assert_eq!(monitor.offer(1, 3), scheduled(2, 10));
-    assert_eq!(monitor.collect(3), played(0, 3));
+    assert_eq!(monitor.collect(3), played(0, 3, 1, 2));
     assert_eq!(monitor.collect(9), Answer::Nothing);
-    assert_eq!(monitor.collect(10), played(1, 10));
+    assert_eq!(monitor.collect(10), played(1, 10, 2, 3));
     assert_eq!(monitor.collect(10), Answer::Nothing);
 }
 
@@ -238,11 +235,11 @@ fn readings_go_on_after_play() {
     let mut monitor = fresh(A);
     assert_eq!(monitor.offer(1, 4), scheduled(1, 4));
     assert_eq!(monitor.offer(1, 5), scheduled(1, 9));
-    assert_eq!(monitor.collect(10), played(1, 4));
-    assert_eq!(monitor.collect(10), played(1, 9));
+    assert_eq!(monitor.collect(10), played(1, 4, 1, 4));
+    assert_eq!(monitor.collect(10), played(1, 9, 2, 5));
     // The clock was reset at 9, so the next is due at 14 at the earliest.
     assert_eq!(monitor.offer(1, 10), scheduled(1, 14));
-    assert_eq!(monitor.collect(30), played(1, 14));
+    assert_eq!(monitor.collect(30), played(1, 14, 3, 10));
     assert_eq!(monitor.offer(1, 30), scheduled(1, 30));
 }
 
@@ -379,8 +376,9 @@ fn reached_is_where_the_history_leads() {
         monitor.offer(action, date);
         monitor.collect(date);
         let automaton = monitor.automaton();
-        let end = beginning(automaton).follow(automaton, monitor.history());
+        let run = run_of(&monitor);
+        let end = beginning(automaton).follow(automaton, &run);
         assert_eq!(end, Some(monitor.reached()));
-        assert!(satisfies(automaton, monitor.history()));
+        assert!(satisfies(automaton, &run));
     }
 }

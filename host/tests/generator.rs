@@ -3,9 +3,10 @@
 
 mod common;
 
-use common::first_call;
-use host::desk::{self, CALL};
+use common::{bare_answer, first_call};
+use host::desk::{self, CALL, COLLECTION};
 use host::generate::{kind_named, BLOCK, KINDS};
+use host::monitor::{Answer, Monitor};
 use host::sheet::{self, Automaton};
 use host::tally::Tally;
 
@@ -287,12 +288,9 @@ fn more_calls_than_16_bits_count() {
     }
 }
 
-/// The answers of an output, without the numbers of the calls.
-fn answers(output: &str) -> Vec<&str> {
-    let lines = output.lines().skip(1);
-    lines
-        .filter_map(|line| Some(line.split_once(' ')?.1))
-        .collect()
+/// The answers of an output, without the numbers of calls and offers.
+fn answers(output: &str) -> Vec<String> {
+    output.lines().skip(1).filter_map(bare_answer).collect()
 }
 
 /// A program that goes on from a fresh box is seen, however late it does.
@@ -357,6 +355,80 @@ fn whole_blocks() {
         assert!(sizes.contains(&(BLOCK * blocks, 0)));
     }
     assert!(sizes.iter().all(|(calls, _)| (calls + 1) % BLOCK <= 2));
+}
+
+/// What the played actions of an input show of their offers.
+#[derive(Debug, Default)]
+struct Offers {
+    /// Dates that are later than that of the offer.
+    later: u32,
+    /// Offers that came before the one by which the action was scheduled, and at
+    /// an earlier date.
+    held: u32,
+    /// Numbers that do not follow on that of the action played before: offers in
+    /// between were dropped.
+    gaps: u32,
+    /// Offers after one that was refused.
+    refused: u32,
+}
+
+/// Makes the calls of an input whose sheet loads.
+fn count_offers(input: &[u8], shown: &mut Offers) {
+    let (bytes, calls) = desk::split(input).expect("there is a sheet");
+    let mut monitor = Monitor::new(sheet::read(bytes).expect("the sheet loads"));
+    // For each number the refused offers before it, and for each scheduled action
+    // the date of the offer by which it was scheduled.
+    let (mut refused, mut refused_before) = (0, vec![0]);
+    let (mut completed, mut collected, mut last) = (Vec::new(), 0, 0);
+    for call in calls.chunks_exact(CALL) {
+        let date = u32::from_le_bytes([call[1], call[2], call[3], call[4]]);
+        if call[0] != COLLECTION {
+            match monitor.offer(call[0], date) {
+                Answer::Refused(_) => refused += 1,
+                _ => refused_before.push(refused),
+            }
+            completed.resize(monitor.history().len(), date);
+        } else if let Answer::Played(played) = monitor.collect(date) {
+            shown.later += u32::from(played.offered < played.date);
+            shown.held += u32::from(played.offered < completed[collected]);
+            shown.gaps += u32::from(played.number > last + 1);
+            shown.refused += u32::from(refused_before[played.number as usize] > 0);
+            (collected, last) = (collected + 1, played.number);
+        }
+    }
+}
+
+/// Programs that number other offers, or give a list those of its last action,
+/// print other lines.
+#[test]
+fn numbers_and_dates_of_offers_show() {
+    for (name, least) in [
+        ("one_clock", [500, 250, 80, 200]),
+        ("two_clocks", [600, 250, 100, 200]),
+        ("deadlines", [600, 350, 30, 150]),
+        ("long_pending", [2000, 1500, 150, 900]),
+        ("long_two_clocks", [2000, 1500, 150, 1000]),
+        ("dated_lists", [3500, 2500, 0, 0]),
+        ("full_schedule", [1500, 400, 150, 1500]),
+        ("full_sheet", [400, 300, 150, 100]),
+        ("late", [700, 150, 150, 800]),
+        ("course", [300, 60, 30, 80]),
+        ("bad_calls", [200, 80, 50, 500]),
+        ("many_calls", [30000, 15000, 10000, 50000]),
+        ("whole_blocks", [5000, 2500, 600, 7000]),
+    ] {
+        let kind = kind_named(name).expect("the kind exists");
+        let mut shown = Offers::default();
+        for seed in 0..GATE {
+            count_offers(&kind.input(seed), &mut shown);
+        }
+        let found = [shown.later, shown.held, shown.gaps, shown.refused];
+        let enough = found
+            .iter()
+            .zip(least)
+            .all(|(found, least)| *found >= least);
+        assert!(enough, "{name}: {shown:?}");
+    }
 }
 
 #[test]

@@ -2,13 +2,12 @@
 
 mod common;
 
-use common::{dates, fresh, input, lines, refused, scheduled, sheet_of, COLLECT};
+use common::{dates, fresh, input, lines, played, refused, scheduled, sheet_of, COLLECT};
 use host::course::{A, B, C, D, E};
 use host::desk;
 use host::limits::LAST_DATE;
 use host::monitor::{Answer, Monitor};
 use host::refusal::Refusal;
-use host::runs::TimedAction;
 use host::sheet;
 
 /// P1: the box after command 1 at 4 and command 1 at 5 on sheet A.
@@ -67,7 +66,7 @@ fn p8() {
     assert!(monitor.lamp());
     assert_eq!(monitor.offer(1, 9), Answer::Dropped);
     // The held list is not emptied.
-    assert_eq!(monitor.pending(), [0]);
+    assert_eq!(monitor.pending_actions(), [0]);
     assert!(monitor.schedule().is_empty());
 }
 
@@ -121,8 +120,7 @@ fn full_schedule_on_a() {
         assert_eq!(monitor.offer(0, 0), scheduled(1, 0));
     }
     assert_eq!(monitor.offer(0, 0), refused(Refusal::S3));
-    let first = TimedAction { action: 0, date: 0 };
-    assert_eq!(monitor.collect(0), Answer::Played(first));
+    assert_eq!(monitor.collect(0), played(0, 0, 1, 0));
     assert_eq!(monitor.offer(0, 0), scheduled(1, 0));
     assert_eq!(monitor.offer(0, 0), refused(Refusal::S3));
 }
@@ -159,8 +157,8 @@ fn printed_example() {
         2 scheduled 1 4 lamp 0\n\
         3 scheduled 1 9 lamp 0\n\
         4 refused S-1 lamp 0\n\
-        5 played 0 1 lamp 0\n\
-        6 played 1 4 lamp 0\n\
+        5 played 0 1 1 1 lamp 0\n\
+        6 played 1 4 2 4 lamp 0\n\
         7 none lamp 0\n";
     assert_eq!(desk::run(&input(A, &calls)), expected);
 }
@@ -188,6 +186,6 @@ fn wrong_programs() {
     monitor.offer(0, 5);
     monitor.collect(9);
     monitor.offer(1, 9);
-    assert_eq!(monitor.pending(), [0]);
+    assert_eq!(monitor.pending_actions(), [0]);
     assert!(monitor.lamp());
 }

@@ -55,7 +55,7 @@ fn play(automaton: &Automaton, state: State, action: u8) -> Option<State> {
 /// The first correction of the pending actions and one more.
 fn correction(monitor: &Monitor, action: u8, t: u32) -> Option<Vec<u32>> {
     let automaton = monitor.automaton();
-    let mut list = monitor.pending().to_vec();
+    let mut list = monitor.pending_actions();
     list.push(action);
     let reached = monitor.reached();
     let start = t.max(reached.date);

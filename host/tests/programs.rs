@@ -5,6 +5,7 @@ mod common;
 use common::input;
 use host::compare::run;
 use host::course::A;
+use host::generate::{KINDS, ONCE};
 use host::pieces::EVERY;
 use std::path::{Path, PathBuf};
 use std::process::{Command, Output};
@@ -40,7 +41,7 @@ fn lines_are_printed() {
 fn generate_writes_inputs() {
     let list = text(&call(GENERATE, &["--list"]).stdout);
     assert!(list.lines().any(|line| line == "long_pending"));
-    for kind in host::generate::KINDS {
+    for kind in KINDS.iter().chain(ONCE) {
         assert!(list.lines().any(|line| line == kind.name));
         let output = call(GENERATE, &[kind.name, "12"]);
         assert!(output.status.success());
@@ -74,13 +75,18 @@ fn wrong_arguments() {
 }
 
 #[test]
-fn compare_with_the_reference() {
-    let output = call(COMPARE, &[REFERENCE, "3", "100"]);
+fn compare_all_kinds() {
+    let output = call(COMPARE, &[FAST, "3", "100"]);
     let text = text(&output.stdout);
     assert!(output.status.success(), "{text}");
-    let inputs = 3 * host::generate::KINDS.len();
-    assert!(text.starts_with(&format!("no difference: {inputs} inputs")));
+    let inputs = 3 * KINDS.len();
+    assert!(text.starts_with(&format!("no difference: {inputs} inputs, ")));
     assert!(text.contains("lamp 0") && text.contains("lamp 1"));
+    // One input of each, whatever the number of seeds.
+    let once = ONCE.len();
+    let title = format!("\nno difference: {once} inputs that use up the numbers, ");
+    let (random, used_up) = text.split_once(&title).expect("they are compared too");
+    assert!(used_up.contains("  refused S-5\n") && !random.contains("S-5"));
 }
 
 #[test]
@@ -92,6 +98,18 @@ fn compare_named_kinds() {
     let text = text(&output.stdout);
     assert!(text.starts_with("no difference: 2 inputs"));
     assert!(text.contains("2  sheet loaded"), "{text}");
+    assert!(!text.contains("that use up the numbers"));
+}
+
+/// One input, however many seeds there are.
+#[test]
+fn compare_a_kind_with_one_input() {
+    for seeds in ["1", "5"] {
+        let output = call(COMPARE, &[REFERENCE, seeds, "9", "used_up_lit"]);
+        let text = text(&output.stdout);
+        assert!(output.status.success(), "{text}");
+        assert!(text.starts_with("no difference: 1 inputs that use up the numbers, "));
+    }
 }
 
 /// Writes a shell script that runs the reference and changes its lines.

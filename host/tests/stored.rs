@@ -3,7 +3,7 @@
 
 mod common;
 
-use common::first_call;
+use common::{bare_answer, first_call};
 use host::desk::{self, CALL};
 use host::generate::BLOCK;
 use host::question::{encode, Checks};
@@ -78,8 +78,7 @@ fn answers_without(input: &[u8], calls: Range<usize>) -> Vec<String> {
     let kept = [&input[..place(calls.start)], &input[place(calls.end)..]];
     let output = desk::run(&kept.concat());
     // The numbers are other ones where calls are left out.
-    let answers = output.lines().filter_map(|line| line.split_once(' '));
-    let answers = answers.map(|(_, answer)| answer.to_string());
+    let answers = output.lines().filter_map(bare_answer);
     answers.skip(1 + calls.start).take(BLOCK).collect()
 }
 

@@ -8,7 +8,7 @@ use native.Mathlib.Omega.{arith}
 use Rattle.enforcement.specs.Automaton.{Bytes, Automaton, automaton, transitions, transitionsOver}
 use Rattle.enforcement.specs.TimedWord.{Event, stamp, fireFirst}
 use Rattle.enforcement.specs.Loading.{Bounded, Loads, Checked, check, accepted, refused, sizePasses, headerPasses, initialPasses, pairsPass, layoutPasses, fits, allFit, overlap, overlapsNone, disjoint, disjointOver}
-use Rattle.enforcement.specs.History.{wordOf, HistoryOf, Outcome, place}
+use Rattle.enforcement.specs.History.{Slot, wordOf, HistoryOf, Outcome, place}
 use Rattle.enforcement.specs.Constraints.{playedOf}
 use Rattle.enforcement.specs.Model.{compile, cells, look, memo, tabled, steps, waits, tower, reads, ended, plan, successors, explore, reaches}
 use Rattle.enforcement.specs.Monitor.{walk, placed, kept, decided, checked, offered, taken, oldest, picked, collected, noneNext, isLit, lampLit, answer, replay, Replayed}
@@ -35,8 +35,8 @@ record Worked : Type 0 where
   answers : List Outcome
   before : List Event
   after : List Event
-  played-before : List Event
-  played : List Event
+  played-before : List Slot
+  played : List Slot
 
 worked : Question → Worked
 worked q =

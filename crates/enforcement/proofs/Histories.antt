@@ -3,10 +3,9 @@ use mathlib.Core.Path.{_≡_, refl, ap, sym, _∙_}
 use mathlib.Core.List.{List, [], _∷_, _++_}
 use Prim.Native.Nat.{ℕ, zero, suc, _≤_}
 use native.Mathlib.Omega.{arith}
-use lib.ListN.{length, take, drop, length-map}
+use lib.ListN.{length, take, drop}
 use Rattle.enforcement.specs.Automaton.{Automaton}
-use Rattle.enforcement.specs.TimedWord.{Event}
-use Rattle.enforcement.specs.History.{History, eventOf, wordOf, fresh, schedule, Call, Outcome, HistoryOf, end, call}
+use Rattle.enforcement.specs.History.{History, Slot, fresh, schedule, Call, Outcome, HistoryOf, end, call}
 use Rattle.enforcement.specs.Constraints.{playedOf}
 use Rattle.enforcement.proofs.Constraints.{played-in-order}
 
@@ -15,7 +14,7 @@ pub history-append : (a : Automaton) (h h′ h″ : History) (ks more : List Cal
 history-append a h h′ h″ ks more os us end q = q
 history-append a h h′ h″ ks more os us (call {h′ = m} {ks = rest} {os = ps} x r) q = call x (history-append a m h′ h″ rest more ps us r q)
 
-take-none : (n : ℕ) (w : List Event) → take n w ≡ [] → n ≤ length w → n ≡ 0
+take-none : (n : ℕ) (w : List Slot) → take n w ≡ [] → n ≤ length w → n ≡ 0
 take-none zero w e l = refl
 take-none (suc n) [] e l = absurd (omega arith)
 take-none (suc n) (x ∷ w) e l = let z : _≡_ {A = ℕ} 0 1 = cc in absurd (omega arith)
@@ -24,5 +23,4 @@ take-none (suc n) (x ∷ w) e l = let z : _≡_ {A = ℕ} 0 1 = cc in absurd (om
 pub none-played : (a : Automaton) (h : History) (ks : List Call) (os : List Outcome) → HistoryOf a (fresh a) ks os h → playedOf os ≡ [] → schedule h ≡ h .scheduled
 none-played a h ks os r e =
     let p = played-in-order a h ks os r in
-    let l : h .played ≤ length (wordOf (h .scheduled)) = omega (arith, p .1, length-map (h .scheduled) eventOf) in
-    ap (λ (n : ℕ). drop n (h .scheduled)) (take-none (h .played) (wordOf (h .scheduled)) (sym (p .0) ∙ e) l)
+    ap (λ (n : ℕ). drop n (h .scheduled)) (take-none (h .played) (h .scheduled) (sym (p .0) ∙ e) (p .1))

@@ -20,6 +20,7 @@ pub mod Simulation
 pub mod Uniqueness
 pub mod Progress
 pub mod Constraints
+pub mod Numbers
 pub mod Histories
 pub mod Model
 pub mod Promises

@@ -12,7 +12,7 @@ use lib.ListN.{length, getD}
 use lib.Count.{ones}
 use Rattle.enforcement.specs.Limits.{maxCount, maxTransitions, maxSize}
 use Rattle.enforcement.specs.Automaton.{Bytes, word, locations, actions, clocks, initial, accepting, allTransitions}
-use Rattle.enforcement.specs.Reason.{Reason, I-1, I-2, I-3, I-4, I-5, I-6, I-7, I-8, S-1, S-2, S-3, S-4, number}
+use Rattle.enforcement.specs.Reason.{Reason, I-1, I-2, I-3, I-4, I-5, I-6, I-7, I-8, S-1, S-2, S-3, S-4, S-5, number}
 use Rattle.enforcement.specs.Loading.{HeaderFits, BitBeyond, Layout, AllFit, Holds, Given, Loads, countsOf, Checked, accepted, refused, sizePasses, headerPasses, initialPasses, layoutPasses, allFit, disjointOver, unless, check, CheckRight, Bounded, Deterministic}
 use Rattle.enforcement.proofs.Tests.{Tests, Finds, leb-tests, leb-finds, ltb-finds, both-tests, both-finds, tests-same, finds-same, finds-not, sure}
 use Rattle.enforcement.proofs.Bits.{bit-beyond, bit-large, countBelow, ones-count}
@@ -52,7 +52,7 @@ layout-finds s = both-finds (leb-finds (6 + 4 * locations s) (length s)) (both-f
 
 -- A reason by its number; 0 is no reason's.
 abbrev named : ℕ → Reason
-named n = getD (I-1 ∷ I-1 ∷ I-2 ∷ I-3 ∷ I-4 ∷ I-5 ∷ I-6 ∷ I-7 ∷ I-8 ∷ S-1 ∷ S-2 ∷ S-3 ∷ S-4 ∷ []) n I-1
+named n = getD (I-1 ∷ I-1 ∷ I-2 ∷ I-3 ∷ I-4 ∷ I-5 ∷ I-6 ∷ I-7 ∷ I-8 ∷ S-1 ∷ S-5 ∷ S-2 ∷ S-3 ∷ S-4 ∷ []) n I-1
 
 named-number : (r : Reason) → named (number r) ≡ r
 named-number I-1 = refl
@@ -67,6 +67,7 @@ named-number S-1 = refl
 named-number S-2 = refl
 named-number S-3 = refl
 named-number S-4 = refl
+named-number S-5 = refl
 
 number-same : (q r : Reason) → number q ≡ number r → q ≡ r
 number-same q r e = sym (named-number q) ∙ ap named e ∙ named-number r
@@ -99,6 +100,7 @@ none-left s h S-1 = λ x. x
 none-left s h S-2 = λ x. x
 none-left s h S-3 = λ x. x
 none-left s h S-4 = λ x. x
+none-left s h S-5 = λ x. x
 
 none-first : (s : Bytes) → Before (number I-1) s
 none-first s q h =

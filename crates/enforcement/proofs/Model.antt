@@ -49,6 +49,7 @@ module _ (𝒜 : Automaton) (bounded : Bounded (𝒜 .bytes)) where
     exact = origin 𝒜;
     reaches = (refl, refl);
     configuration-is = refl;
+    numbered-is = refl;
     lamp-is = lamp-right 𝒜 bounded (compile 𝒜) (compiled 𝒜 bounded) [] (𝒜 .loaded) (origin 𝒜) (refl, refl) (𝒜 .loaded) [];
   }
 

@@ -8,7 +8,7 @@ use native.Mathlib.Nat.{le-refl}
 use lib.ListN.{length, length-append}
 use Rattle.enforcement.specs.Automaton.{Automaton, actions}
 use Rattle.enforcement.specs.TimedWord.{Configuration, Event, elapse, Run, Monotone, lastOf, lastDate, datesOf, stamp, origin, step, Accepting, Accepts, Known, Timing, Correction, Continues, OneIfNone}
-use Rattle.enforcement.specs.History.{Request, Slot, actionsOf, wordOf, History, fresh, Call, offer, Outcome, dropped, joined, Passes, Corrects, Uncorrectable, IsOpen, afterSchedule, afterHold, afterDate, Dark, Schedulable, Schedulable.schedules, Schedulable.holds, Schedulable.drops, Answers, unknown, late, past, too-late, no-place, Answers.schedules, full, Answers.holds, Answers.drops, late-collect, past-collect, plays, too-early, empty, is-dark, is-lit, HistoryOf, end, call}
+use Rattle.enforcement.specs.History.{Request, Slot, actionsOf, wordOf, History, fresh, Call, offer, Outcome, dropped, numberedNext, joined, Passes, Corrects, Uncorrectable, IsOpen, afterSchedule, afterHold, afterDrop, afterDate, Dark, Schedulable, Schedulable.schedules, Schedulable.holds, Schedulable.drops, Answers, unknown, late, past, no-number, too-late, no-place, Answers.schedules, full, Answers.holds, Answers.drops, late-collect, past-collect, plays, too-early, empty, is-dark, is-lit, HistoryOf, end, call}
 use Rattle.enforcement.proofs.Slots.{actions-append}
 use Rattle.enforcement.proofs.Saturation.{Steps, Ending}
 use Rattle.enforcement.proofs.Runs
@@ -129,10 +129,10 @@ module _ (𝒜 : Automaton) (w : List Event) where
         from-last = monotone-cut (lastDate 𝒜 w) ds (e .date) (datesOf v) a;
       }
 
-  pub joined-timing : (t : ℕ) (rs : List Request) (ds : List ℕ) (e : Event) (v : List Event) → Timing 𝒜 w t (actionsOf rs) ds → t ≤ e .date → Accepts 𝒜 (w ++ (stamp (actionsOf rs) ds ++ (e ∷ v)))
-      → Timing 𝒜 w t (actionsOf (rs ++ (record { action = e .action } ∷ []))) (ds ++ (e .date ∷ [])) × Accepts 𝒜 (w ++ (stamp (actionsOf (rs ++ (record { action = e .action } ∷ []))) (ds ++ (e .date ∷ [])) ++ v))
-  joined-timing t rs ds e v d h x =
-      subst⁻¹ (λ (cs : List ℕ). Timing 𝒜 w t cs (ds ++ (e .date ∷ [])) × Accepts 𝒜 (w ++ (stamp cs (ds ++ (e .date ∷ [])) ++ v))) (actions-append rs (record { action = e .action } ∷ []))
+  pub joined-timing : (t n o : ℕ) (rs : List Request) (ds : List ℕ) (e : Event) (v : List Event) → Timing 𝒜 w t (actionsOf rs) ds → t ≤ e .date → Accepts 𝒜 (w ++ (stamp (actionsOf rs) ds ++ (e ∷ v)))
+      → Timing 𝒜 w t (actionsOf (rs ++ (record { action = e .action; number = n; offered = o } ∷ []))) (ds ++ (e .date ∷ [])) × Accepts 𝒜 (w ++ (stamp (actionsOf (rs ++ (record { action = e .action; number = n; offered = o } ∷ []))) (ds ++ (e .date ∷ [])) ++ v))
+  joined-timing t n o rs ds e v d h x =
+      subst⁻¹ (λ (cs : List ℕ). Timing 𝒜 w t cs (ds ++ (e .date ∷ [])) × Accepts 𝒜 (w ++ (stamp cs (ds ++ (e .date ∷ [])) ++ v))) (actions-append rs (record { action = e .action; number = n; offered = o } ∷ []))
       (timing-more t (actionsOf rs) ds e v d h x, subst⁻¹ (λ (u : List Event). Accepts 𝒜 (w ++ u)) (stamp-snoc (actionsOf rs) ds (e .action) (e .date) v (d .each)) x)
 
 -- ---- What can be scheduled continues
@@ -141,7 +141,7 @@ module _ (𝒜 : Automaton) (w : List Event) where
 joined-continues : (𝒜 : Automaton) (ℋ : History) (c t : ℕ) → c < actions (𝒜 .bytes) → ℋ .date ≤ t → IsOpen 𝒜 ℋ c t → Dark 𝒜 ℋ
 joined-continues 𝒜 ℋ c t k h o =
     let w : List Event = wordOf (ℋ .scheduled) in
-    let e : actionsOf (joined ℋ c) ≡ actionsOf (ℋ .pending) ++ (c ∷ []) = actions-append (ℋ .pending) (record { action = c } ∷ []) in
+    let e : actionsOf (joined ℋ c t) ≡ actionsOf (ℋ .pending) ++ (c ∷ []) = actions-append (ℋ .pending) (numberedNext ℋ c t ∷ []) in
     continues-sooner 𝒜 w (ℋ .date) t (actionsOf (ℋ .pending)) h
     (continues-less 𝒜 w t (actionsOf (ℋ .pending)) c (o .dates) (o .further) k (subst (λ (cs : List ℕ). Timing 𝒜 w t cs (o .dates)) e (o .timing)) (o .known)
     (subst (λ (cs : List ℕ). Accepts 𝒜 (w ++ (stamp cs (o .dates) ++ o .further))) e (o .accepts)))
@@ -149,7 +149,7 @@ joined-continues 𝒜 ℋ c t k h o =
 pub schedulable-dark : (𝒜 : Automaton) (ℋ : History) → Schedulable 𝒜 ℋ → Dark 𝒜 ℋ
 schedulable-dark 𝒜 ℋ (Schedulable.schedules {h = z} c t ds k h x) = joined-continues 𝒜 z c t k h (correction-open x)
 schedulable-dark 𝒜 ℋ (Schedulable.holds {h = z} c t k h un op r) = joined-continues 𝒜 z c t k h op
-schedulable-dark 𝒜 ℋ (Schedulable.drops {h = z} c t k h un sh r) = continues-sooner 𝒜 (wordOf (z .scheduled)) (z .date) t (actionsOf (z .pending)) h (schedulable-dark 𝒜 (afterDate z t) r)
+schedulable-dark 𝒜 ℋ (Schedulable.drops {h = z} c t k h un sh r) = continues-sooner 𝒜 (wordOf (z .scheduled)) (z .date) t (actionsOf (z .pending)) h (schedulable-dark 𝒜 (afterDrop z t) r)
 
 -- ---- What continues can be scheduled
 
@@ -158,20 +158,20 @@ unfoldable pub Decides : Automaton → List Event → ℕ → Type 0
 Decides 𝒜 w t = (cs : List ℕ) → NonEmpty cs → ((ds : List ℕ) × Correction 𝒜 w t cs ds) ⊎ ((ds : List ℕ) → Correction 𝒜 w t cs ds → ⊥)
 
 -- The further events, all offered at once, get one more action scheduled.
-continues-schedulable : (𝒜 : Automaton) (w : List Slot) (t n : ℕ) → Decides 𝒜 (wordOf w) t → (v : List Event) (e : Event) (rs : List Request) (ds : List ℕ) → Timing 𝒜 (wordOf w) t (actionsOf rs) ds
-    → Known 𝒜 (e ∷ v) → Monotone t (datesOf (e ∷ v)) → Accepts 𝒜 (wordOf w ++ (stamp (actionsOf rs) ds ++ (e ∷ v))) → Schedulable 𝒜 (record { date = t; scheduled = w; pending = rs; played = n })
+continues-schedulable : (𝒜 : Automaton) (w : List Slot) (t n i : ℕ) → Decides 𝒜 (wordOf w) t → (v : List Event) (e : Event) (rs : List Request) (ds : List ℕ) → Timing 𝒜 (wordOf w) t (actionsOf rs) ds
+    → Known 𝒜 (e ∷ v) → Monotone t (datesOf (e ∷ v)) → Accepts 𝒜 (wordOf w ++ (stamp (actionsOf rs) ds ++ (e ∷ v))) → Schedulable 𝒜 (record { date = t; scheduled = w; pending = rs; played = n; numbered = i })
 unfolding Decides
-continues-schedulable 𝒜 w t n dec [] e rs ds d k r x =
-    let y = joined-timing 𝒜 (wordOf w) t rs ds e [] d (r .0) x in
+continues-schedulable 𝒜 w t n i dec [] e rs ds d k r x =
+    let y = joined-timing 𝒜 (wordOf w) t (suc i) t rs ds e [] d (r .0) x in
     Schedulable.schedules (e .action) t (ds ++ (e .date ∷ [])) (k .0) (le-refl t)
-    (record { timing = y .0; accepts = subst (λ (u : List Event). Accepts 𝒜 (wordOf w ++ u)) (append-nil (stamp (actionsOf (rs ++ (record { action = e .action } ∷ []))) (ds ++ (e .date ∷ [])))) (y .1) })
-continues-schedulable 𝒜 w t n dec (f ∷ v) e rs ds d k r x =
-    elim (dec (actionsOf (rs ++ (record { action = e .action } ∷ []))) (joined-nonEmpty rs (e .action))) [
+    (record { timing = y .0; accepts = subst (λ (u : List Event). Accepts 𝒜 (wordOf w ++ u)) (append-nil (stamp (actionsOf (rs ++ (record { action = e .action; number = suc i; offered = t } ∷ []))) (ds ++ (e .date ∷ [])))) (y .1) })
+continues-schedulable 𝒜 w t n i dec (f ∷ v) e rs ds d k r x =
+    elim (dec (actionsOf (rs ++ (record { action = e .action; number = suc i; offered = t } ∷ []))) (joined-nonEmpty rs (record { action = e .action; number = suc i; offered = t }))) [
       | inl c ↦ Schedulable.schedules (e .action) t (c .0) (k .0) (le-refl t) (c .1)
       | inr un ↦
-          let y = joined-timing 𝒜 (wordOf w) t rs ds e (f ∷ v) d (r .0) x in
+          let y = joined-timing 𝒜 (wordOf w) t (suc i) t rs ds e (f ∷ v) d (r .0) x in
           Schedulable.holds (e .action) t (k .0) (le-refl t) un (record { dates = ds ++ (e .date ∷ []); timing = y .0; further = f ∷ v; known = k .1; accepts = y .1 })
-          (continues-schedulable 𝒜 w t n dec v f (rs ++ (record { action = e .action } ∷ [])) (ds ++ (e .date ∷ [])) (y .0) (k .1) (Runs.monotone-from t (e .date) (datesOf (f ∷ v)) (r .0) (r .1)) (y .1))
+          (continues-schedulable 𝒜 w t n (suc i) dec v f (rs ++ (record { action = e .action; number = suc i; offered = t } ∷ [])) (ds ++ (e .date ∷ [])) (y .0) (k .1) (Runs.monotone-from t (e .date) (datesOf (f ∷ v)) (r .0) (r .1)) (y .1))
     ]
 
 -- What is pending has no correction.
@@ -193,13 +193,13 @@ dark-schedulable 𝒜 ℋ dec un g = go (g .further) (g .known) (g .from-t) (g .
       | inl e ↦ absurd (nobody (ℋ .pending) e o)
       | inr f ↦ absurd (f (g .dates) (record { timing = g .timing; accepts = subst (λ (u : List Event). Accepts 𝒜 (w ++ u)) (append-nil (stamp (actionsOf (ℋ .pending)) (g .dates))) x }))
     ]
-    go (e ∷ v) k r o x = continues-schedulable 𝒜 (ℋ .scheduled) (ℋ .date) (ℋ .played) dec v e (ℋ .pending) (g .dates) (g .timing) k r x
+    go (e ∷ v) k r o x = continues-schedulable 𝒜 (ℋ .scheduled) (ℋ .date) (ℋ .played) (ℋ .numbered) dec v e (ℋ .pending) (g .dates) (g .timing) k r x
 
 -- ---- How a call changes the history
 
 data Change (𝒜 : Automaton) (ℋ : History) : History → Type 0 where
   same : Change 𝒜 ℋ ℋ
-  later : (t n : ℕ) → ℋ .date ≤ t → Change 𝒜 ℋ (record { date = t; scheduled = ℋ .scheduled; pending = ℋ .pending; played = n })
+  later : (t n i : ℕ) → ℋ .date ≤ t → Change 𝒜 ℋ (record { date = t; scheduled = ℋ .scheduled; pending = ℋ .pending; played = n; numbered = i })
   hold : (c t : ℕ) → Passes 𝒜 ℋ c t → Uncorrectable 𝒜 ℋ c t → IsOpen 𝒜 ℋ c t → Change 𝒜 ℋ (afterHold ℋ c t)
   schedule : (c t : ℕ) (ds : List ℕ) → Passes 𝒜 ℋ c t → Corrects 𝒜 ℋ c t ds → Change 𝒜 ℋ (afterSchedule ℋ c t ds)
 
@@ -207,17 +207,18 @@ change : {𝒜 : Automaton} {ℋ ℋ′ : History} {k : Call} {o : Outcome} → 
 change (unknown h) = same
 change (late h i) = same
 change (past h i j) = same
+change (no-number h i j k) = same
 change (too-late p x f) = same
 change (no-place p b h i) = same
 change (Answers.schedules {c = c} {t = t} {ds = ds} p b h i) = schedule c t ds p (b .correction)
 change (full p u o h) = same
 change (Answers.holds {c = c} {t = t} p u o h) = hold c t p u o
-change {ℋ} (Answers.drops {t = t} p u n) = later t (ℋ .played) (p .current)
+change {ℋ} (Answers.drops {t = t} p u n) = later t (ℋ .played) (suc (ℋ .numbered)) (p .current)
 change (late-collect h) = same
 change (past-collect h i) = same
-change {ℋ} (plays {t = t} h i x y) = later t (suc (ℋ .played)) i
-change {ℋ} (too-early {t = t} h i x y) = later t (ℋ .played) i
-change {ℋ} (empty {t = t} h i x) = later t (ℋ .played) i
+change {ℋ} (plays {t = t} h i x y) = later t (suc (ℋ .played)) (ℋ .numbered) i
+change {ℋ} (too-early {t = t} h i x y) = later t (ℋ .played) (ℋ .numbered) i
+change {ℋ} (empty {t = t} h i x) = later t (ℋ .played) (ℋ .numbered) i
 change (is-dark h) = same
 change (is-lit h) = same
 
@@ -225,8 +226,8 @@ change (is-lit h) = same
 change-uncorrected : (𝒜 : Automaton) (ℋ ℋ′ : History) → Change 𝒜 ℋ ℋ′ → Uncorrected 𝒜 ℋ → Uncorrected 𝒜 ℋ′
 unfolding Uncorrected
 change-uncorrected 𝒜 ℋ ℋ′ same u = u
-change-uncorrected 𝒜 ℋ ℋ′ (later t n h) (inl e) = inl e
-change-uncorrected 𝒜 ℋ ℋ′ (later t n h) (inr f) =
+change-uncorrected 𝒜 ℋ ℋ′ (later t n i h) (inl e) = inl e
+change-uncorrected 𝒜 ℋ ℋ′ (later t n i h) (inr f) =
     inr (λ ds x. f ds (record { timing = sooner 𝒜 (wordOf (ℋ .scheduled)) (ℋ .date) t (actionsOf (ℋ .pending)) ds h (x .timing); accepts = x .accepts }))
 change-uncorrected 𝒜 ℋ ℋ′ (hold c t p un op) u = inr un
 change-uncorrected 𝒜 ℋ ℋ′ (schedule c t ds p x) u = inl refl
@@ -243,7 +244,7 @@ fresh-uncorrected 𝒜 = inl refl
 
 change-lit : (𝒜 : Automaton) (ℋ ℋ′ : History) → (Dark 𝒜 ℋ → ⊥) → Change 𝒜 ℋ ℋ′ → Dark 𝒜 ℋ′ → ⊥
 change-lit 𝒜 ℋ ℋ′ l same g = l g
-change-lit 𝒜 ℋ ℋ′ l (later t n h) g = l (continues-sooner 𝒜 (wordOf (ℋ .scheduled)) (ℋ .date) t (actionsOf (ℋ .pending)) h g)
+change-lit 𝒜 ℋ ℋ′ l (later t n i h) g = l (continues-sooner 𝒜 (wordOf (ℋ .scheduled)) (ℋ .date) t (actionsOf (ℋ .pending)) h g)
 change-lit 𝒜 ℋ ℋ′ l (hold c t p un op) g = l (joined-continues 𝒜 ℋ c t (p .known) (p .current) op)
 change-lit 𝒜 ℋ ℋ′ l (schedule c t ds p x) g = l (joined-continues 𝒜 ℋ c t (p .known) (p .current) (correction-open x))
 
@@ -251,11 +252,12 @@ pub history-lit : (𝒜 : Automaton) (ℋ ℋ′ : History) (ks : List Call) (os
 history-lit 𝒜 ℋ ℋ′ ks os l end g = l g
 history-lit 𝒜 ℋ ℋ′ ks os l (call {h′ = x} {ks = rest} {os = us} h r) g = history-lit 𝒜 x ℋ′ rest us (change-lit 𝒜 ℋ x l (change h)) r g
 
--- Every offer that is not refused for its action or date is then dropped.
+-- Every offer that passes the first checks is then dropped.
 pub lit-drops : (𝒜 : Automaton) (ℋ ℋ′ : History) (c t : ℕ) (o : Outcome) → (Dark 𝒜 ℋ → ⊥) → Passes 𝒜 ℋ c t → Answers 𝒜 ℋ (offer c t) o ℋ′ → o ≡ dropped
 lit-drops 𝒜 ℋ ℋ′ c t o l q (unknown h) = absurd (omega arith)
 lit-drops 𝒜 ℋ ℋ′ c t o l q (late h i) = absurd (omega arith)
 lit-drops 𝒜 ℋ ℋ′ c t o l q (past h i j) = absurd (omega arith)
+lit-drops 𝒜 ℋ ℋ′ c t o l q (no-number h i j k) = absurd (omega arith)
 lit-drops 𝒜 ℋ ℋ′ c t o l q (too-late p x f) = absurd (l (joined-continues 𝒜 ℋ c t (p .known) (p .current) (correction-open x)))
 lit-drops 𝒜 ℋ ℋ′ c t o l q (no-place p b h i) = absurd (l (joined-continues 𝒜 ℋ c t (p .known) (p .current) (correction-open (b .correction))))
 lit-drops 𝒜 ℋ ℋ′ c t o l q (Answers.schedules p b h i) = absurd (l (joined-continues 𝒜 ℋ c t (p .known) (p .current) (correction-open (b .correction))))

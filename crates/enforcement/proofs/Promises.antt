@@ -2,15 +2,17 @@
 use mathlib.Core.Path.{_≡_, refl, subst, subst⁻¹}
 use mathlib.Core.Bool.{true}
 use mathlib.Core.List.{List, _++_}
-use Prim.Native.Nat.{ℕ, _≤_}
+use Prim.Native.Nat.{ℕ, _≤_, _<_}
+use Rattle.enforcement.specs.Limits.{maxNumbered}
 use Rattle.enforcement.specs.Automaton.{Automaton, Bytes, automaton}
 use Rattle.enforcement.specs.Loading.{Bounded, Loads}
 use Rattle.enforcement.specs.History.{History, fresh, Call, offer, dropped, Dark}
 use Rattle.enforcement.specs.Model.{compile}
 use Rattle.enforcement.specs.Monitor.{Monitor, freshMonitor, answer, replay}
-use Rattle.enforcement.specs.Demands.{StandsFor, Demand2All, ModelDemand3All, calls, lampAfter, InTime, Promised}
+use Rattle.enforcement.specs.Demands.{StandsFor, Demand2All, ModelDemand3All, calls, lampAfter, Admitted, Promised}
 use Rattle.enforcement.proofs.Loading
 use Rattle.enforcement.proofs.Constraints.{enforcement}
+use Rattle.enforcement.proofs.Numbers.{numbers}
 use Rattle.enforcement.proofs.Uniqueness.{one-history}
 use Rattle.enforcement.proofs.Progress.{history-lit, lit-drops}
 use Rattle.enforcement.proofs.Model
@@ -41,11 +43,11 @@ module _ (𝒜 : Automaton) (bounded : Bounded (𝒜 .bytes)) where
   exhausted-lit : (b : Monitor) → Exhausted b → b .lit ≡ true
   exhausted-lit b x = Model.not-dark-lit (x .stands) (x .not-dark)
 
-  pub exhausted-drops : (b : Monitor) → Exhausted b → (c t : ℕ) → InTime 𝒜 b c t → answer (compile 𝒜) b (offer c t) .outcome ≡ dropped
+  pub exhausted-drops : (b : Monitor) → Exhausted b → (c t : ℕ) → Admitted 𝒜 b c t → answer (compile 𝒜) b (offer c t) .outcome ≡ dropped
   exhausted-drops b x c t i =
       let r = Model.answers 𝒜 bounded (x .history) b (x .stands) (offer c t) in
       lit-drops 𝒜 (x .history) (r .history) c t (answer (compile 𝒜) b (offer c t) .outcome) (x .not-dark)
-      (record { known = i .known; early = i .early; current = subst (λ (d : ℕ). d ≤ t) (x .stands .date-is) (i .current) }) (r .answers)
+      (record { known = i .known; early = i .early; current = subst (λ (d : ℕ). d ≤ t) (x .stands .date-is) (i .current); countable = subst (λ (n : ℕ). n < maxNumbered) (x .stands .numbered-is) (i .countable) }) (r .answers)
 
 pub model-demand-3 : (𝒜 : Automaton) → Bounded (𝒜 .bytes) → ModelDemand3All 𝒜
 unfolding ModelDemand3All answer
@@ -66,4 +68,4 @@ model-demand-3 𝒜 bounded ks =
     }
 
 pub promised : (s : Bytes) → Loads s → Promised s
-promised s l = record { demand-2 = demand-2 (automaton s) (Loading.bounded s l); demand-3 = model-demand-3 (automaton s) (Loading.bounded s l); constraints = enforcement (automaton s) }
+promised s l = record { demand-2 = demand-2 (automaton s) (Loading.bounded s l); demand-3 = model-demand-3 (automaton s) (Loading.bounded s l); constraints = enforcement (automaton s); numbers = numbers (automaton s) }

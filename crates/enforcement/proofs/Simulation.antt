@@ -9,12 +9,12 @@ use lib.Dec.{leb, ltb}
 use lib.ListN.{length, drop, length-append}
 use lib.Seq.{drop-append-le}
 use borrow.Author.Tests.{leb-true, leb-false, ltb-true, ltb-false}
-use Rattle.enforcement.specs.Limits.{maxCount, maxDate}
+use Rattle.enforcement.specs.Limits.{maxCount, maxDate, maxNumbered}
 use Rattle.enforcement.specs.Automaton.{Automaton}
 use Rattle.enforcement.specs.TimedWord.{Configuration, Event, lastOf}
-use Rattle.enforcement.specs.Reason.{I-7, I-8, S-1, S-2, S-3, S-4}
+use Rattle.enforcement.specs.Reason.{I-7, I-8, S-1, S-2, S-3, S-4, S-5}
 use Rattle.enforcement.specs.Loading.{Bounded}
-use Rattle.enforcement.specs.History.{Request, Slot, actionsOf, wordOf, place, History, schedule, freeSlots, Call, offer, collect, lamp, Outcome, scheduled, dropped, played, nothing, lit, dark, refused, joined, Passes, Chosen, Uncorrectable, IsOpen, afterSchedule, afterHold, afterDate, afterPlay, Dark, Answers, unknown, late, past, too-late, no-place, Answers.schedules, full, Answers.holds, Answers.drops, late-collect, past-collect, plays, too-early, empty, is-dark, is-lit, HistoryOf, end, call}
+use Rattle.enforcement.specs.History.{Request, Slot, actionsOf, wordOf, place, History, schedule, freeSlots, Call, offer, collect, lamp, Outcome, scheduled, dropped, played, nothing, lit, dark, refused, numberedNext, joined, Passes, Chosen, Uncorrectable, IsOpen, afterSchedule, afterHold, afterDrop, afterDate, afterPlay, Dark, Answers, unknown, late, past, no-number, too-late, no-place, Answers.schedules, full, Answers.holds, Answers.drops, late-collect, past-collect, plays, too-early, empty, is-dark, is-lit, HistoryOf, end, call}
 use Rattle.enforcement.specs.Model.{Prospect, ticks, extensible, dead, Compiled, prospect, dates, advance, saturated, oneClock}
 use Rattle.enforcement.specs.Monitor.{Monitor, isLit, lampLit, withLamp, dated, placed, kept, decided, checked, offered, taken, oldest, picked, collected, answer, Replayed, replay}
 use Rattle.enforcement.specs.Demands.{Reaches, StandsFor, Demand2}
@@ -29,11 +29,11 @@ use Rattle.enforcement.proofs.Lamp.{lamp-right}
 
 -- The monitor that stands for a history, where everything ever scheduled reaches the date last and the configuration q, with the lamp x.
 abbrev pub monitorOf : Automaton → History → ℕ → Configuration → Bool → Monitor
-monitorOf 𝒜 ℋ last q x = record { date = ℋ .date; pending = ℋ .pending; schedule = schedule ℋ; configuration = saturated (oneClock 𝒜) q; last = last; lit = x }
+monitorOf 𝒜 ℋ last q x = record { date = ℋ .date; pending = ℋ .pending; schedule = schedule ℋ; configuration = saturated (oneClock 𝒜) q; last = last; numbered = ℋ .numbered; lit = x }
 
-pub joined-nonEmpty : (rs : List Request) (c : ℕ) → NonEmpty (actionsOf (rs ++ (record { action = c } ∷ [])))
-joined-nonEmpty [] c = tt
-joined-nonEmpty (r ∷ rs) c = tt
+pub joined-nonEmpty : (rs : List Request) (r : Request) → NonEmpty (actionsOf (rs ++ (r ∷ [])))
+joined-nonEmpty [] r = tt
+joined-nonEmpty (q ∷ rs) r = tt
 
 module _ (𝒜 : Automaton) (bounded : Bounded (𝒜 .bytes)) (m : Compiled) (mine : CompiledFrom 𝒜 m) (ℋ : History) (played-fits : ℋ .played ≤ length (ℋ .scheduled)) (last : ℕ) (q : Configuration) (reaches : Reaches 𝒜 (wordOf (ℋ .scheduled)) last q) (shines : Bool) (lamp-is : (shines ≡ false) ↔ Dark 𝒜 ℋ) where
   abbrev monitor : Monitor
@@ -44,14 +44,14 @@ module _ (𝒜 : Automaton) (bounded : Bounded (𝒜 .bytes)) (m : Compiled) (mi
   stays k o h = record {
     history = ℋ;
     answers = h;
-    stands = record { date-is = refl; pending-is = refl; schedule-is = refl; played-fits = played-fits; exact = q; reaches = reaches; configuration-is = refl; lamp-is = lamp-is };
+    stands = record { date-is = refl; pending-is = refl; schedule-is = refl; played-fits = played-fits; exact = q; reaches = reaches; configuration-is = refl; numbered-is = refl; lamp-is = lamp-is };
   }
 
   -- A history with nothing more scheduled, and the monitor that stands for it.
-  stands : (t : ℕ) (rs : List Request) (n : ℕ) (ss : List Slot) → ss ≡ drop n (ℋ .scheduled) → n ≤ length (ℋ .scheduled)
-      → StandsFor 𝒜 (withLamp m (record { date = t; pending = rs; schedule = ss; configuration = monitor .configuration; last = last; lit = shines })) (record { date = t; scheduled = ℋ .scheduled; pending = rs; played = n })
+  stands : (t : ℕ) (rs : List Request) (n k : ℕ) (ss : List Slot) → ss ≡ drop n (ℋ .scheduled) → n ≤ length (ℋ .scheduled)
+      → StandsFor 𝒜 (withLamp m (record { date = t; pending = rs; schedule = ss; configuration = monitor .configuration; last = last; numbered = k; lit = shines })) (record { date = t; scheduled = ℋ .scheduled; pending = rs; played = n; numbered = k })
   unfolding lampLit
-  stands t rs n ss e h = record {
+  stands t rs n k ss e h = record {
     date-is = refl;
     pending-is = refl;
     schedule-is = e;
@@ -59,12 +59,13 @@ module _ (𝒜 : Automaton) (bounded : Bounded (𝒜 .bytes)) (m : Compiled) (mi
     exact = q;
     reaches = reaches;
     configuration-is = refl;
+    numbered-is = refl;
     lamp-is = lamp-right 𝒜 bounded m mine (wordOf (ℋ .scheduled)) last q reaches t (actionsOf rs);
   }
 
   -- Only the date moves.
-  moves : (k : Call) (o : Outcome) (t : ℕ) → Answers 𝒜 ℋ k o (afterDate ℋ t) → Demand2 𝒜 ℋ k (record { outcome = o; monitor = dated m monitor t })
-  moves k o t h = record { history = afterDate ℋ t; answers = h; stands = stands t (ℋ .pending) (ℋ .played) (schedule ℋ) refl played-fits }
+  moves : (k : Call) (o : Outcome) (t : ℕ) → Answers 𝒜 ℋ k o (afterDate ℋ t) → Demand2 𝒜 ℋ k (record { outcome = o; monitor = dated m monitor t (ℋ .numbered) })
+  moves k o t h = record { history = afterDate ℋ t; answers = h; stands = stands t (ℋ .pending) (ℋ .played) (ℋ .numbered) (schedule ℋ) refl played-fits }
 
   -- ---- Offers
 
@@ -73,7 +74,7 @@ module _ (𝒜 : Automaton) (bounded : Bounded (𝒜 .bytes)) (m : Compiled) (mi
     word = wordOf (ℋ .scheduled)
 
     abbrev cs : List ℕ
-    cs = actionsOf (joined ℋ c)
+    cs = actionsOf (joined ℋ c t)
 
     abbrev earliest : ℕ
     earliest = max t last
@@ -85,63 +86,68 @@ module _ (𝒜 : Automaton) (bounded : Bounded (𝒜 .bytes)) (m : Compiled) (mi
     ds = dates m cs standing earliest
 
     nonEmpty : NonEmpty cs
-    nonEmpty = joined-nonEmpty (ℋ .pending) c
+    nonEmpty = joined-nonEmpty (ℋ .pending) (numberedNext ℋ c t)
 
-    place-right : Passes 𝒜 ℋ c t → (n : ℕ) → prospect m cs standing ≡ ticks n → (u v : Bool) → ltb maxDate (earliest + n) ≡ u → ltb (freeSlots ℋ) (length (joined ℋ c)) ≡ v
+    place-right : Passes 𝒜 ℋ c t → (n : ℕ) → prospect m cs standing ≡ ticks n → (u v : Bool) → ltb maxDate (earliest + n) ≡ u → ltb (freeSlots ℋ) (length (joined ℋ c t)) ≡ v
         → Demand2 𝒜 ℋ (offer c t) (placed m monitor c t ds (earliest + n) u v)
     unfolding placed lampLit
     place-right p n e u v x y = go u v x y (Decision.best 𝒜 bounded m mine word last q reaches t cs nonEmpty n e)
       where
-        go : (u v : Bool) → ltb maxDate (earliest + n) ≡ u → ltb (freeSlots ℋ) (length (joined ℋ c)) ≡ v → Chosen 𝒜 ℋ c t ds × (lastOf 0 ds ≡ earliest + n)
+        go : (u v : Bool) → ltb maxDate (earliest + n) ≡ u → ltb (freeSlots ℋ) (length (joined ℋ c t)) ≡ v → Chosen 𝒜 ℋ c t ds × (lastOf 0 ds ≡ earliest + n)
             → Demand2 𝒜 ℋ (offer c t) (placed m monitor c t ds (earliest + n) u v)
         go true v x y be =
             stays (offer c t) (refused S-2) (too-late p (be .0 .correction) (λ es h. omega (arith, be .1, best-least (be .0) es h, ltb-true maxDate (earliest + n) x)))
         go false true x y be =
             stays (offer c t) (refused S-3)
             (no-place p (be .0) (omega (arith, be .1, ltb-false maxDate (earliest + n) x))
-            (omega (arith, be .0 .correction .timing .each, actions-length (joined ℋ c), ltb-true (freeSlots ℋ) (length (joined ℋ c)) y)))
+            (omega (arith, be .0 .correction .timing .each, actions-length (joined ℋ c t), ltb-true (freeSlots ℋ) (length (joined ℋ c t)) y)))
         go false false x y be =
             let la = Decision.lands 𝒜 bounded m mine word last q reaches t cs nonEmpty ds (earliest + n) (be .0 .correction) (be .1) in
-            let reaches-on : Reaches 𝒜 (wordOf (ℋ .scheduled ++ place (joined ℋ c) ds)) (earliest + n) (la .0) =
-            subst⁻¹ (λ (w : List Event). Reaches 𝒜 w (earliest + n) (la .0)) (word-append (ℋ .scheduled) (place (joined ℋ c) ds) ∙ ap (λ (v : List Event). word ++ v) (word-place (joined ℋ c) ds)) (la .1) in
+            let reaches-on : Reaches 𝒜 (wordOf (ℋ .scheduled ++ place (joined ℋ c t) ds)) (earliest + n) (la .0) =
+            subst⁻¹ (λ (w : List Event). Reaches 𝒜 w (earliest + n) (la .0)) (word-append (ℋ .scheduled) (place (joined ℋ c t) ds) ∙ ap (λ (v : List Event). word ++ v) (word-place (joined ℋ c t) ds)) (la .1) in
             record {
               history = afterSchedule ℋ c t ds;
               answers = subst (λ (l : ℕ). Answers 𝒜 ℋ (offer c t) (scheduled (length ds) l) (afterSchedule ℋ c t ds)) (be .1)
                   (Answers.schedules p (be .0) (omega (arith, be .1, ltb-false maxDate (earliest + n) x))
-                  (omega (arith, be .0 .correction .timing .each, actions-length (joined ℋ c), ltb-false (freeSlots ℋ) (length (joined ℋ c)) y)));
+                  (omega (arith, be .0 .correction .timing .each, actions-length (joined ℋ c t), ltb-false (freeSlots ℋ) (length (joined ℋ c t)) y)));
               stands = record {
                 date-is = refl;
                 pending-is = refl;
-                schedule-is = sym (drop-append-le (ℋ .played) (ℋ .scheduled) (place (joined ℋ c) ds) played-fits);
-                played-fits = omega (arith, length-append (ℋ .scheduled) (place (joined ℋ c) ds));
+                schedule-is = sym (drop-append-le (ℋ .played) (ℋ .scheduled) (place (joined ℋ c t) ds) played-fits);
+                played-fits = omega (arith, length-append (ℋ .scheduled) (place (joined ℋ c t) ds));
                 exact = la .0;
                 reaches = reaches-on;
                 configuration-is = la .2;
+                numbered-is = refl;
                 lamp-is = subst⁻¹ (λ (p : Configuration). (isLit m (advance (max t (earliest + n) - (earliest + n)) p) [] ≡ false) ↔ Dark 𝒜 (afterSchedule ℋ c t ds)) (la .2)
-                    (lamp-right 𝒜 bounded m mine (wordOf (ℋ .scheduled ++ place (joined ℋ c) ds)) (earliest + n) (la .0) reaches-on t []);
+                    (lamp-right 𝒜 bounded m mine (wordOf (ℋ .scheduled ++ place (joined ℋ c t) ds)) (earliest + n) (la .0) reaches-on t []);
               };
             }
 
     decide-right : Passes 𝒜 ℋ c t → (a : Prospect) → prospect m cs standing ≡ a → Demand2 𝒜 ℋ (offer c t) (decided m monitor c t (dates m cs) a)
     unfolding decided kept
-    decide-right p (ticks n) e = place-right p n e (ltb maxDate (earliest + n)) (ltb (freeSlots ℋ) (length (joined ℋ c))) refl refl
+    decide-right p (ticks n) e = place-right p n e (ltb maxDate (earliest + n)) (ltb (freeSlots ℋ) (length (joined ℋ c t))) refl refl
     decide-right p extensible e = go (leb maxCount (length (ℋ .pending))) refl
         (Decision.none-extensible 𝒜 bounded m mine word last q reaches t cs nonEmpty e) (Decision.extensible-open 𝒜 bounded m mine word last q reaches t cs nonEmpty e)
       where
         go : (u : Bool) → leb maxCount (length (ℋ .pending)) ≡ u → Uncorrectable 𝒜 ℋ c t → IsOpen 𝒜 ℋ c t → Demand2 𝒜 ℋ (offer c t) (kept m monitor c t u)
         go true x un op = stays (offer c t) (refused S-4) (full p un op (leb-true maxCount (length (ℋ .pending)) x))
-        go false x un op = record { history = afterHold ℋ c t; answers = Answers.holds p un op (leb-false maxCount (length (ℋ .pending)) x); stands = stands t (joined ℋ c) (ℋ .played) (schedule ℋ) refl played-fits }
-    decide-right p dead e =
-        moves (offer c t) dropped t
-        (Answers.drops p (Decision.none-dead 𝒜 bounded m mine word last q reaches t cs nonEmpty e) (Decision.dead-shut 𝒜 bounded m mine word last q reaches t cs nonEmpty e))
+        go false x un op = record { history = afterHold ℋ c t; answers = Answers.holds p un op (leb-false maxCount (length (ℋ .pending)) x); stands = stands t (joined ℋ c t) (ℋ .played) (suc (ℋ .numbered)) (schedule ℋ) refl played-fits }
+    decide-right p dead e = record {
+      history = afterDrop ℋ t;
+      answers = Answers.drops p (Decision.none-dead 𝒜 bounded m mine word last q reaches t cs nonEmpty e) (Decision.dead-shut 𝒜 bounded m mine word last q reaches t cs nonEmpty e);
+      stands = stands t (ℋ .pending) (ℋ .played) (suc (ℋ .numbered)) (schedule ℋ) refl played-fits;
+    }
 
-    check-right : (u v w : Bool) → ltb c (m .known) ≡ u → ltb maxDate t ≡ v → ltb t (ℋ .date) ≡ w → Demand2 𝒜 ℋ (offer c t) (checked m monitor c t u v w)
+    check-right : (u v w x : Bool) → ltb c (m .known) ≡ u → ltb maxDate t ≡ v → ltb t (ℋ .date) ≡ w → leb maxNumbered (ℋ .numbered) ≡ x → Demand2 𝒜 ℋ (offer c t) (checked m monitor c t u v w x)
     unfolding checked
-    check-right false v w e f g = stays (offer c t) (refused I-7) (unknown (omega (arith, mine .known-is, ltb-false c (m .known) e)))
-    check-right true true w e f g = stays (offer c t) (refused I-8) (late (omega (arith, mine .known-is, ltb-true c (m .known) e)) (ltb-true maxDate t f))
-    check-right true false true e f g = stays (offer c t) (refused S-1) (past (omega (arith, mine .known-is, ltb-true c (m .known) e)) (ltb-false maxDate t f) (ltb-true t (ℋ .date) g))
-    check-right true false false e f g =
-        decide-right (record { known = omega (arith, mine .known-is, ltb-true c (m .known) e); early = ltb-false maxDate t f; current = ltb-false t (ℋ .date) g }) (prospect m cs standing) refl
+    check-right false v w x e f g h = stays (offer c t) (refused I-7) (unknown (omega (arith, mine .known-is, ltb-false c (m .known) e)))
+    check-right true true w x e f g h = stays (offer c t) (refused I-8) (late (omega (arith, mine .known-is, ltb-true c (m .known) e)) (ltb-true maxDate t f))
+    check-right true false true x e f g h = stays (offer c t) (refused S-1) (past (omega (arith, mine .known-is, ltb-true c (m .known) e)) (ltb-false maxDate t f) (ltb-true t (ℋ .date) g))
+    check-right true false false true e f g h =
+        stays (offer c t) (refused S-5) (no-number (omega (arith, mine .known-is, ltb-true c (m .known) e)) (ltb-false maxDate t f) (ltb-false t (ℋ .date) g) (leb-true maxNumbered (ℋ .numbered) h))
+    check-right true false false false e f g h =
+        decide-right (record { known = omega (arith, mine .known-is, ltb-true c (m .known) e); early = ltb-false maxDate t f; current = ltb-false t (ℋ .date) g; countable = leb-false maxNumbered (ℋ .numbered) h }) (prospect m cs standing) refl
 
   -- ---- Collects
 
@@ -153,7 +159,7 @@ module _ (𝒜 : Automaton) (bounded : Bounded (𝒜 .bytes)) (m : Compiled) (mi
         record {
           history = afterPlay ℋ t;
           answers = plays h k x (leb-true (e .date) t y);
-          stands = stands t (ℋ .pending) (suc (ℋ .played)) rest (sym (d .0)) (d .1);
+          stands = stands t (ℋ .pending) (suc (ℋ .played)) (ℋ .numbered) rest (sym (d .0)) (d .1);
         }
     take-right h k e rest x false y = moves (collect t) nothing t (too-early h k x (leb-false (e .date) t y))
 
@@ -176,7 +182,7 @@ module _ (𝒜 : Automaton) (bounded : Bounded (𝒜 .bytes)) (m : Compiled) (mi
 
   answer-of : (k : Call) → Demand2 𝒜 ℋ k (answer m monitor k)
   unfolding answer offered collected
-  answer-of (offer c t) = check-right c t (ltb c (m .known)) (ltb maxDate t) (ltb t (ℋ .date)) refl refl refl
+  answer-of (offer c t) = check-right c t (ltb c (m .known)) (ltb maxDate t) (ltb t (ℋ .date)) (leb maxNumbered (ℋ .numbered)) refl refl refl refl
   answer-of (collect t) = pick-right t (ltb maxDate t) (ltb t (ℋ .date)) refl refl
   answer-of lamp = lamp-answers shines lamp-is
 
@@ -189,7 +195,7 @@ same-test false true f g = true-false refl (g .1 (f .0 refl))
 same-test false false f g = refl
 
 stands-is : (𝒜 : Automaton) (ℋ : History) (b : Monitor) (s : StandsFor 𝒜 b ℋ) → b ≡ monitorOf 𝒜 ℋ (b .last) (s .exact) (b .lit)
-stands-is 𝒜 ℋ b s = λ i. record { date = s .date-is i; pending = s .pending-is i; schedule = s .schedule-is i; configuration = s .configuration-is i; last = b .last; lit = b .lit }
+stands-is 𝒜 ℋ b s = λ i. record { date = s .date-is i; pending = s .pending-is i; schedule = s .schedule-is i; configuration = s .configuration-is i; last = b .last; numbered = s .numbered-is i; lit = b .lit }
 
 -- The history of a list of calls on a monitor, and that the monitor after them stands for it.
 pub record Follows (𝒜 : Automaton) (ℋ : History) (ks : List Call) (z : Replayed) : Type 0 where

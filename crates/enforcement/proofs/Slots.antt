@@ -1,6 +1,6 @@
 -- Laws of slots and requests.
 use mathlib.Core.Path.{_≡_, refl, ap}
-use mathlib.Core.List.{List, [], _∷_, _++_, map-append}
+use mathlib.Core.List.{List, [], _∷_, _++_, map, map-append}
 use Prim.Native.Nat.{ℕ, zero, suc, _≤_}
 use native.Mathlib.Omega.{arith}
 use lib.ListN.{length, length-map, drop}
@@ -27,6 +27,12 @@ unfolding place
 place-length [] ds h = refl
 place-length (r ∷ rs) [] h = h
 place-length (r ∷ rs) (d ∷ ds) h = ap suc (place-length rs ds (omega arith))
+
+pub request-place : (rs : List Request) (ds : List ℕ) → length ds ≡ length rs → map (λ (s : Slot). s .request) (place rs ds) ≡ rs
+unfolding place
+request-place [] ds h = refl
+request-place (r ∷ rs) [] h = absurd (omega arith)
+request-place (r ∷ rs) (d ∷ ds) h = ap (λ (qs : List Request). r ∷ qs) (request-place rs ds (omega arith))
 
 -- Where something is left after the first n, the first n and it are there.
 pub drop-next : (n : ℕ) (w : List Slot) (e : Slot) (rest : List Slot) → drop n w ≡ e ∷ rest → (drop (suc n) w ≡ rest) × (suc n ≤ length w)

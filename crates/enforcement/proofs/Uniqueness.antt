@@ -5,11 +5,11 @@ use mathlib.Core.Logic.{_⊎_, inl, inr}
 use Prim.Native.Nat.{ℕ, _≤_, _<_}
 use native.Mathlib.Omega.{arith}
 use lib.ListN.{length}
-use Rattle.enforcement.specs.Limits.{maxCount, maxDate}
+use Rattle.enforcement.specs.Limits.{maxCount, maxDate, maxNumbered}
 use Rattle.enforcement.specs.Automaton.{Automaton, actions}
 use Rattle.enforcement.specs.TimedWord.{lastOf}
-use Rattle.enforcement.specs.Reason.{I-7, I-8, S-1, S-2, S-3, S-4}
-use Rattle.enforcement.specs.History.{Slot, History, schedule, freeSlots, Call, offer, collect, lamp, Outcome, scheduled, held, dropped, played, nothing, lit, dark, refused, joined, Corrects, Chosen, IsOpen, afterSchedule, afterHold, afterDate, afterPlay, Dark, Answers, unknown, late, past, too-late, no-place, Answers.schedules, full, Answers.holds, Answers.drops, late-collect, past-collect, plays, too-early, empty, is-dark, is-lit, HistoryOf, end, call}
+use Rattle.enforcement.specs.Reason.{I-7, I-8, S-1, S-2, S-3, S-4, S-5}
+use Rattle.enforcement.specs.History.{Slot, History, schedule, freeSlots, Call, offer, collect, lamp, Outcome, scheduled, held, dropped, played, nothing, lit, dark, refused, joined, Corrects, Chosen, IsOpen, afterSchedule, afterHold, afterDrop, afterDate, afterPlay, Dark, Answers, unknown, late, past, no-number, too-late, no-place, Answers.schedules, full, Answers.holds, Answers.drops, late-collect, past-collect, plays, too-early, empty, is-dark, is-lit, HistoryOf, end, call}
 use Rattle.enforcement.proofs.Slots.{actions-length}
 use Rattle.enforcement.proofs.Corrections.{best-same}
 
@@ -61,41 +61,44 @@ module _ (𝒜 : Automaton) (ℋ : History) where
         ask (c < actions (𝒜 .bytes))
         (ask (t ≤ maxDate)
         (ask (ℋ .date ≤ t)
+        (ask (ℋ .numbered < maxNumbered)
         (ask ((ds : List ℕ) × Corrects 𝒜 ℋ c t ds)
-        (ask ((ds : List ℕ) × Corrects 𝒜 ℋ c t ds × (lastOf 0 ds ≤ maxDate)) (ask (length (joined ℋ c) ≤ freeSlots ℋ) (single Scheduled scheduled-single) (only (refused S-3) ℋ)) (only (refused S-2) ℋ))
-        (ask (IsOpen 𝒜 ℋ c t) (ask (length (ℋ .pending) < maxCount) (only held (afterHold ℋ c t)) (only (refused S-4) ℋ)) (only dropped (afterDate ℋ t))))
+        (ask ((ds : List ℕ) × Corrects 𝒜 ℋ c t ds × (lastOf 0 ds ≤ maxDate)) (ask (length (joined ℋ c t) ≤ freeSlots ℋ) (single Scheduled scheduled-single) (only (refused S-3) ℋ)) (only (refused S-2) ℋ))
+        (ask (IsOpen 𝒜 ℋ c t) (ask (length (ℋ .pending) < maxCount) (only held (afterHold ℋ c t)) (only (refused S-4) ℋ)) (only dropped (afterDrop ℋ t))))
+        (only (refused S-5) ℋ))
         (only (refused S-1) ℋ))
         (only (refused I-8) ℋ))
         (only (refused I-7) ℋ)
 
-    fits : (ds : List ℕ) → Chosen 𝒜 ℋ c t ds → length ds ≡ length (joined ℋ c)
-    fits ds b = b .correction .timing .each ∙ actions-length (joined ℋ c)
+    fits : (ds : List ℕ) → Chosen 𝒜 ℋ c t ds → length ds ≡ length (joined ℋ c t)
+    fits ds b = b .correction .timing .each ∙ actions-length (joined ℋ c t)
 
     offer-says : {o : Outcome} {ℋ′ : History} → Answers 𝒜 ℋ (offer c t) o ℋ′ → Says offerTree o ℋ′
     offer-says (unknown h) = inr ((λ x. omega arith), (refl, refl))
     offer-says (late h k) = inl (h, inr ((λ x. omega arith), (refl, refl)))
     offer-says (past h k l) = inl (h, inl (k, inr ((λ x. omega arith), (refl, refl))))
-    offer-says (too-late {ds = ds} p x f) = inl (p .known, inl (p .early, inl (p .current, inl ((ds, x), inr ((λ y. omega (arith, f (y .0) (y .1), y .2)), (refl, refl))))))
+    offer-says (no-number h k l n) = inl (h, inl (k, inl (l, inr ((λ x. omega arith), (refl, refl)))))
+    offer-says (too-late {ds = ds} p x f) = inl (p .known, inl (p .early, inl (p .current, inl (p .countable, inl ((ds, x), inr ((λ y. omega (arith, f (y .0) (y .1), y .2)), (refl, refl)))))))
     offer-says (no-place {ds = ds} p b h k) =
-        inl (p .known, inl (p .early, inl (p .current, inl ((ds, b .correction), inl ((ds, b .correction, h), inr ((λ y. omega (arith, fits ds b)), (refl, refl)))))))
+        inl (p .known, inl (p .early, inl (p .current, inl (p .countable, inl ((ds, b .correction), inl ((ds, b .correction, h), inr ((λ y. omega (arith, fits ds b)), (refl, refl))))))))
     offer-says (Answers.schedules {ds = ds} p b h k) =
-        inl (p .known, inl (p .early, inl (p .current, inl ((ds, b .correction), inl ((ds, b .correction, h), inl (omega (arith, fits ds b), (ds, b, refl, refl)))))))
-    offer-says (full p u o h) = inl (p .known, inl (p .early, inl (p .current, inr ((λ y. u (y .0) (y .1)), inl (o, inr ((λ y. omega arith), (refl, refl)))))))
-    offer-says (Answers.holds p u o h) = inl (p .known, inl (p .early, inl (p .current, inr ((λ y. u (y .0) (y .1)), inl (o, inl (h, (refl, refl)))))))
-    offer-says (Answers.drops p u n) = inl (p .known, inl (p .early, inl (p .current, inr ((λ y. u (y .0) (y .1)), inr (n, (refl, refl))))))
+        inl (p .known, inl (p .early, inl (p .current, inl (p .countable, inl ((ds, b .correction), inl ((ds, b .correction, h), inl (omega (arith, fits ds b), (ds, b, refl, refl))))))))
+    offer-says (full p u o h) = inl (p .known, inl (p .early, inl (p .current, inl (p .countable, inr ((λ y. u (y .0) (y .1)), inl (o, inr ((λ y. omega arith), (refl, refl))))))))
+    offer-says (Answers.holds p u o h) = inl (p .known, inl (p .early, inl (p .current, inl (p .countable, inr ((λ y. u (y .0) (y .1)), inl (o, inl (h, (refl, refl))))))))
+    offer-says (Answers.drops p u n) = inl (p .known, inl (p .early, inl (p .current, inl (p .countable, inr ((λ y. u (y .0) (y .1)), inr (n, (refl, refl)))))))
 
   -- ---- Collects
 
   module _ (t : ℕ) where
     -- The outcome and the history of the oldest scheduled action.
     abbrev Played : Result
-    Played o ℋ′ = (e : Slot) × (rest : List Slot) × (schedule ℋ ≡ e ∷ rest) × (o ≡ played (e .request .action) (e .date)) × (ℋ′ ≡ afterPlay ℋ t)
+    Played o ℋ′ = (e : Slot) × (rest : List Slot) × (schedule ℋ ≡ e ∷ rest) × (o ≡ played (e .request .action) (e .date) (e .request .number) (e .request .offered)) × (ℋ′ ≡ afterPlay ℋ t)
 
     heads : {e f : Slot} {u v w : List Slot} → w ≡ e ∷ u → w ≡ f ∷ v → e ≡ f
     heads p q = cc
 
     played-single : Single Played
-    played-single o o′ ℋ₁ ℋ₂ h k = (h .3 ∙ ap (λ (e : Slot). played (e .request .action) (e .date)) (heads (h .2) (k .2)) ∙ sym (k .3), h .4 ∙ sym (k .4))
+    played-single o o′ ℋ₁ ℋ₂ h k = (h .3 ∙ ap (λ (e : Slot). played (e .request .action) (e .date) (e .request .number) (e .request .offered)) (heads (h .2) (k .2)) ∙ sym (k .3), h .4 ∙ sym (k .4))
 
     -- The questions that decide a collect, in order.
     abbrev collectTree : Tree

@@ -19,7 +19,7 @@ abbrev pub unlessRefused : Outcome → Event → List Event → List Event
 unlessRefused (scheduled n l) e w = e ∷ w
 unlessRefused held e w = e ∷ w
 unlessRefused dropped e w = e ∷ w
-unlessRefused (played c d) e w = e ∷ w
+unlessRefused (played c d n o) e w = e ∷ w
 unlessRefused nothing e w = e ∷ w
 unlessRefused lit e w = e ∷ w
 unlessRefused dark e w = e ∷ w
@@ -33,25 +33,25 @@ inputOf (offer c t ∷ ks) (o ∷ os) = unlessRefused o (record { action = c; da
 inputOf (collect t ∷ ks) (o ∷ os) = inputOf ks os
 inputOf (lamp ∷ ks) (o ∷ os) = inputOf ks os
 
--- The events that collections played.
-abbrev pub playedOf : List Outcome → List Event
+-- What collections played.
+abbrev pub playedOf : List Outcome → List Slot
 playedOf [] = []
 playedOf (scheduled n l ∷ os) = playedOf os
 playedOf (held ∷ os) = playedOf os
 playedOf (dropped ∷ os) = playedOf os
-playedOf (played c d ∷ os) = record { action = c; date = d } ∷ playedOf os
+playedOf (played c d n t ∷ os) = record { request = record { action = c; number = n; offered = t }; date = d } ∷ playedOf os
 playedOf (nothing ∷ os) = playedOf os
 playedOf (lit ∷ os) = playedOf os
 playedOf (dark ∷ os) = playedOf os
 playedOf (refused r ∷ os) = playedOf os
 
--- What a list of calls from a fresh box scheduled, in all, is sound, keeps to the input, and is only ever extended; its dates never fall, and collections play it from its first event on, in order.
+-- What a list of calls from a fresh box scheduled, in all, is sound, keeps to the input, and is only ever extended; its dates never fall, and collections play it from its first event on, in order, each with its number and its offered date.
 pub record Enforces (a : Automaton) (ks : List Call) (os : List Outcome) (h : History) : Type 0 where
   pub soundness : (h .scheduled ≡ []) ⊎ Accepts a (wordOf (h .scheduled))
   pub transparency : Delayed (wordOf (h .scheduled)) (inputOf ks os)
   pub physical : (ks′ : List Call) (os′ : List Outcome) (h′ : History) → HistoryOf a h ks′ os′ h′ → (v : List Slot) × (h′ .scheduled ≡ h .scheduled ++ v)
   pub rises : Monotone (a .loaded) (datesOf (wordOf (h .scheduled)))
-  pub in-order : playedOf os ≡ take (h .played) (wordOf (h .scheduled))
+  pub in-order : playedOf os ≡ take (h .played) (h .scheduled)
 
 -- Definition 5.7, for every list of calls.
 unfoldable pub Enforcement : Automaton → Type 0

@@ -5,11 +5,12 @@ use mathlib.Core.Logic.{_↔_}
 use mathlib.Core.List.{List, _++_}
 use Prim.Native.Nat.{ℕ, _≤_, _<_}
 use lib.ListN.{length}
-use Rattle.enforcement.specs.Limits.{maxDate}
+use Rattle.enforcement.specs.Limits.{maxDate, maxNumbered}
 use Rattle.enforcement.specs.Automaton.{Automaton, Bytes, automaton, actions}
 use Rattle.enforcement.specs.TimedWord.{Configuration, Event, Run, step, origin}
 use Rattle.enforcement.specs.History.{History, wordOf, fresh, schedule, Call, offer, lamp, Outcome, dropped, lit, dark, Answers, HistoryOf, Schedulable, Dark}
 use Rattle.enforcement.specs.Constraints.{Enforcement}
+use Rattle.enforcement.specs.Numbers.{Numbers}
 use Rattle.enforcement.specs.Model.{compile, saturated, oneClock}
 use Rattle.enforcement.specs.Monitor.{Monitor, freshMonitor, Answered, answer, Replayed, replay}
 
@@ -17,7 +18,7 @@ use Rattle.enforcement.specs.Monitor.{Monitor, freshMonitor, Answered, a
 abbrev pub Reaches : Automaton → List Event → ℕ → Configuration → Type 0
 Reaches a w last q = Run (step a) (λ e r. (e ≡ last) × (r ≡ q)) (a .loaded) (origin a) w
 
--- The monitor stands for the history: the same date, pending actions and schedule, the configuration and date that everything ever scheduled reaches, and a lamp that is dark exactly when document 01's
+-- The monitor stands for the history: the same date, pending actions and schedule, with their numbers and offered dates, as many offers numbered, the configuration and date that everything ever scheduled reaches, and a lamp that is dark exactly when document 01's
 -- rule says so.
 pub record StandsFor (a : Automaton) (b : Monitor) (h : History) : Type 0 where
   pub date-is : b .date ≡ h .date
@@ -27,6 +28,7 @@ pub record StandsFor (a : Automaton) (b : Monitor) (h : History) : Type 0 where
   pub exact : Configuration
   pub reaches : Reaches a (wordOf (h .scheduled)) (b .last) exact
   pub configuration-is : b .configuration ≡ saturated (oneClock a) exact
+  pub numbered-is : b .numbered ≡ h .numbered
   pub lamp-is : (b .lit ≡ false) ↔ Dark a h
 
 -- ---- Demand 2: on a monitor that stands for a history, a call answers as the history, and gives a monitor that stands for the history after it.
@@ -48,15 +50,16 @@ calls a ks = replay (compile a) (freshMonitor a) ks
 abbrev pub lampAfter : Automaton → List Call → Bool
 lampAfter a ks = calls a ks .monitor .lit
 
--- An offer that is not refused for its action or date (I-7, I-8 and S-1) by a monitor.
-pub record InTime (a : Automaton) (b : Monitor) (c t : ℕ) : Type 0 where
+-- An offer that a monitor does not refuse for its action or date (I-7, I-8 and S-1), nor because all numbers are given (S-5).
+pub record Admitted (a : Automaton) (b : Monitor) (c t : ℕ) : Type 0 where
   pub known : c < actions (a .bytes)
   pub early : t ≤ maxDate
   pub current : b .date ≤ t
+  pub countable : b .numbered < maxNumbered
 
 -- For a list of calls from a fresh monitor of the model: the outcomes are the history's, which is the only one, and the monitor stands for it, with its
 -- date, pending actions and schedule; its stored lamp is lit exactly when no run of further offers could get one more action scheduled, which is document 01's
--- rule, and a lamp call answers it; once lit, it is lit after every longer list, and there every offer that is not refused for its action or date is dropped.
+-- rule, and a lamp call answers it; once lit, it is lit after every longer list, and there every offer that is not refused for its action or date, nor with S-5, is dropped.
 pub record ModelDemand3 (a : Automaton) (ks : List Call) : Type 0 where
   pub history : History
   pub recorded : HistoryOf a (fresh a) ks (calls a ks .outcomes) history
@@ -67,7 +70,7 @@ pub record ModelDemand3 (a : Automaton) (ks : List Call) : Type 0 where
   pub rule-is : Dark a history ↔ Schedulable a history
   pub answers-lamp : answer (compile a) (calls a ks .monitor) lamp .outcome ≡ cond (lampAfter a ks) lit dark
   pub stays-lit : lampAfter a ks ≡ true → (more : List Call) → lampAfter a (ks ++ more) ≡ true
-  pub drops : lampAfter a ks ≡ true → (more : List Call) (c t : ℕ) → InTime a (calls a (ks ++ more) .monitor) c t → answer (compile a) (calls a (ks ++ more) .monitor) (offer c t) .outcome ≡ dropped
+  pub drops : lampAfter a ks ≡ true → (more : List Call) (c t : ℕ) → Admitted a (calls a (ks ++ more) .monitor) c t → answer (compile a) (calls a (ks ++ more) .monitor) (offer c t) .outcome ≡ dropped
 
 unfoldable pub ModelDemand3All : Automaton → Type 0
 ModelDemand3All a = (ks : List Call) → ModelDemand3 a ks
@@ -78,3 +81,4 @@ pub record Promised (s : Bytes) : Type 0 where
   pub demand-2 : Demand2All (automaton s)
   pub demand-3 : ModelDemand3All (automaton s)
   pub constraints : Enforcement (automaton s)
+  pub numbers : Numbers (automaton s)

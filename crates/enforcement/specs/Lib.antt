@@ -5,6 +5,7 @@ pub mod Reason
 pub mod Loading
 pub mod History
 pub mod Constraints
+pub mod Numbers
 pub mod Model
 pub mod Monitor
 pub mod Demands

@@ -1,4 +1,4 @@
--- The limits of the box (document 01): each of the five numbers stands here once.
+-- The limits of the box (document 01, and request F-2 of document 02): each of the six numbers stands here once.
 use Prim.Native.Nat.{ℕ, _+_, _*_}
 
 -- The most locations, the most actions, and the most pending actions (the held list).
@@ -20,6 +20,10 @@ maxTransitions = 64
 -- The last date.
 abbrev pub maxDate : ℕ
 maxDate = 1_000_000_000
+
+-- The most offers that get a number.
+abbrev pub maxNumbered : ℕ
+maxNumbered = 1_000_000
 
 -- The bytes of the largest automaton: its header, a pair for each location, and its transitions.
 abbrev pub maxSize : ℕ

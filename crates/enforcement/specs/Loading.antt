@@ -9,7 +9,7 @@ use lib.ListN.{length}
 use lib.Count.{ones}
 use Rattle.enforcement.specs.Limits.{maxCount, maxBound, maxTransitions, maxSize}
 use Rattle.enforcement.specs.Automaton.{Bytes, word, locations, clocks, actions, initial, accepting, bit, offset, size, Transition, transitions, allTransitions, enabled}
-use Rattle.enforcement.specs.Reason.{Reason, I-1, I-2, I-3, I-4, I-5, I-6, I-7, I-8, S-1, S-2, S-3, S-4, number}
+use Rattle.enforcement.specs.Reason.{Reason, I-1, I-2, I-3, I-4, I-5, I-6, I-7, I-8, S-1, S-2, S-3, S-4, S-5, number}
 
 -- ---- What a sheet must be
 
@@ -95,6 +95,7 @@ Holds S-1 s = ⊥
 Holds S-2 s = ⊥
 Holds S-3 s = ⊥
 Holds S-4 s = ⊥
+Holds S-5 s = ⊥
 
 -- The reason's condition holds, and no earlier one does.
 pub record Given (r : Reason) (s : Bytes) : Type 0 where

@@ -1,10 +1,10 @@
--- Why a load or a call refuses (document 01, "Why a call refuses").
+-- Why a load or a call refuses (document 01, "Why a call refuses"; S-5 is from request F-2 of document 02).
 use Prim.Native.Nat.{ℕ}
 
 pub data Reason : Type 0 where
-  I-1 I-2 I-3 I-4 I-5 I-6 I-7 I-8 S-1 S-2 S-3 S-4 : Reason
+  I-1 I-2 I-3 I-4 I-5 I-6 I-7 I-8 S-1 S-2 S-3 S-4 S-5 : Reason
 
--- The order in which the reasons are tested: 1 to 8 for I-1 to I-8, then 9 to 12 for S-1 to S-4.
+-- The order in which the reasons are tested: 1 to 8 for I-1 to I-8, then S-1, S-5, and S-2 to S-4.
 abbrev pub number : Reason → ℕ
 number I-1 = 1
 number I-2 = 2
@@ -15,6 +15,7 @@ number I-6 = 6
 number I-7 = 7
 number I-8 = 8
 number S-1 = 9
-number S-2 = 10
-number S-3 = 11
-number S-4 = 12
+number S-5 = 10
+number S-2 = 11
+number S-3 = 12
+number S-4 = 13

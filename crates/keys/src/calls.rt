@@ -45,6 +45,20 @@ No S-4 for a drop; 2 1 3 0 2 0, 14 0 14 0 28 0 0 0, 0 0 0 0 255 0 255, 1 1 0 0 2
     );
 }
 
+// Numbers: from 1, one for each offer that is scheduled, held or dropped. "played" has command, date, number and offered date.
+pub fn numbers() {
+    ask_all(
+        b"\
+Numbers from 1; A; 1 at 4, 1 at 5, 255 at 9, 255 at 9; The second is offered at 5, and played at 9.
+Held commands keep theirs; E; 0 at 2, 0 at 7, 1 at 9, 255 at 9, 255 at 9, 255 at 9; The offer that completes a batch gives its own number and date to its own command alone.
+A dropped offer has a number; B; 1 at 0, 0 at 3, 1 at 5, 255 at 5, 255 at 15; 1 was the first offer, so the batch has 2 and 3.
+A refused offer has none; B; 2 at 3, 0 at 3, 0 at 1000000001, 0 at 2, 255 at 4, 1 at 5, 255 at 5, 255 at 15; Neither I-7, I-8 nor S-1 takes a number, nor does a collection.
+S-3 and S-4 take none; 2 1 2 0 2 0, 14 0 14 0 28 0 7 0, 0 0 0 0 255 0 255, 1 1 0 0 255 0 255, 0 0 0 0 255 0 255; 16 x 0 at 0, 0 at 1, 1 at 2, 16 x 0 at 3, 1 at 4, 255 at 4, 255 at 4, 1 at 5, 18 x 255 at 6; Seventeen have 1 to 17. Then sixteen are held, 18 to 33, and 1 is S-3 until two are played: it has 34.
+S-2 takes none; B; 0 at 999999991, 1 at 999999991, 255 at 999999991; 1 is S-2, and the held 0 keeps 1.
+",
+    );
+}
+
 // Collections: the oldest, one at a time, once its date has come.
 pub fn collections() {
     ask_all(

@@ -17,6 +17,7 @@ fn main() {
     calls::date();
     calls::late();
     calls::room();
+    calls::numbers();
     calls::collections();
     sheets::size();
     sheets::start();

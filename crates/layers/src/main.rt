@@ -29,5 +29,6 @@ fn main() {
     lamp::all();
     replay::keys();
     replay::edges();
+    replay::numbers();
     calls::all();
 }

@@ -5,6 +5,7 @@ use marking::block;
 use marking::desk;
 use report::line;
 use retimer::limits::Monitor;
+use retimer::limits::Request;
 use retimer::limits::State;
 use retimer::replay;
 use retimer::state::Answer;
@@ -15,7 +16,29 @@ pub fn print_answer(a: Answer) {
     print::word(&out[..end]);
 }
 
-// The scheduled commands with their dates.
+// A number, and the date at which what has it was offered.
+fn print_number(r: Request) {
+    print::number(r.number as u64);
+    print::date(r.offered);
+}
+
+// The held commands, each with its number and its offered date.
+fn print_pending(q: State) {
+    let requests = q.pending;
+    let n = q.held;
+    let mut i: usize = 0;
+    while i < n {
+        if Monitor::COUNT <= i {
+            return;
+        }
+        let r = requests[i];
+        print::byte(r.action);
+        print_number(r);
+        i += 1;
+    }
+}
+
+// The scheduled commands, each with its date, its number and its offered date.
 fn print_schedule(q: State) {
     let slots = q.schedule;
     let n = q.planned;
@@ -25,8 +48,10 @@ fn print_schedule(q: State) {
             return;
         }
         let e = slots[i];
-        print::byte(e.action);
+        let r = e.request;
+        print::byte(r.action);
         print::date(e.date);
+        print_number(r);
         i += 1;
     }
 }
@@ -45,10 +70,13 @@ fn print_state(q: State) {
     print::date(q.date);
     print::word(b"; held");
     print::number(q.held as u64);
+    print_pending(q);
     print::word(b"; schedule");
     print_schedule(q);
     print::word(b"; last");
     print_last(q);
+    print::word(b"; numbered");
+    print::date(q.numbered);
     print::word(b"; lamp");
     print::truth(q.lit);
 }
@@ -97,4 +125,12 @@ pub fn edges() {
     let b = course::sheet_b();
     replay(b"played: ", &b, b"0 at 3, 1 at 5, 255 at 15, 255 at 16");
     replay(b"refused: ", &a[..41], b"0 at 1");
+}
+
+// Numbers: a refused offer between held ones, and a dropped one before them.
+pub fn numbers() {
+    let e = course::sheet_e();
+    replay(b"refused between: ", &e, b"0 at 2, 0 at 7, 0 at 6, 1 at 9");
+    let b = course::sheet_b();
+    replay(b"dropped before: ", &b, b"1 at 0, 0 at 3, 2 at 4, 1 at 5");
 }

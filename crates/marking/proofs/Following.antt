@@ -39,7 +39,7 @@ held-text : (a : Answer) (h : ℕ) → ((n : ℕ) → a ≡ Held n → n ≡ h) 
 held-text (Scheduled n d) h e = refl
 held-text (Held n) h e = ap (λ (k : ℕ). answerText (Held k)) (e n refl)
 held-text Dropped h e = refl
-held-text (Played c d) h e = refl
+held-text (Played c d n t) h e = refl
 held-text Nothing h e = refl
 held-text Lit h e = refl
 held-text Dark h e = refl
@@ -49,7 +49,7 @@ lamp-few : (x : Bool) → length (lampText x) ≡ 8
 lamp-few true = refl
 lamp-few false = refl
 
-pub line-few : (n : ℕ) (a : Answer) (x : Bool) → length (callLine n (answerText a) x) ≤ 80
+pub line-few : (n : ℕ) (a : Answer) (x : Bool) → length (callLine n (answerText a) x) ≤ 120
 line-few n a x =
     omega (
       arith,
@@ -82,7 +82,7 @@ pub record Marking (start : Monitor) (s : Bytes) (n : ℕ) (before out : List �
   pub made-is : made ≡ n + done
   pub text : List ℕ
   pub wrote : Wrote before 0 text out end
-  pub few : end ≤ 80 * done
+  pub few : end ≤ 120 * done
   pub lines : text ++ linesOf (modelOf (bytesOf start)) (view q) made (callsFrom s (length s / 5 - done) i) ≡ linesOf (modelOf (bytesOf start)) (viewOf start) n (callsOf s)
   pub monitor : replay (modelOf (bytesOf start)) (view q) (callsFrom s (length s / 5 - done) i) .monitor ≡ replay (modelOf (bytesOf start)) (viewOf start) (callsOf s) .monitor
   pub valid : StateValid (bytesOf start) (start .live) q
@@ -157,7 +157,7 @@ module _ {start : Monitor} {s : Bytes} {n : ℕ} {before out : List ℕ} {q : St
         ap (λ (ks : List Call). replay m (view q) ks .monitor) unrolled
         ∙ ap (λ (v : model.Monitor). replay m v (callsFrom s (length s / 5 - (g .done + 1)) (i + 5)) .monitor) (sym view-is)
 
-    pub goes-on : {out′ : List ℕ} {end′ : ℕ} → 80 * (length s / 5) + 80 ≤ length before
+    pub goes-on : {out′ : List ℕ} {end′ : ℕ} → 120 * (length s / 5) + 120 ≤ length before
         → Wrote out end (callLine (made + 1) (answerText (r .answer)) (r .state .lit)) out′ end′ → length out′ ≡ length out
         → Marking start s n before out′ (r .state) (made + 1) end′ (i + 5)
     unfolding m line
@@ -194,7 +194,7 @@ module _ {start : Monitor} {s : Bytes} {n : ℕ} {before out : List ℕ} {q : St
   unfolding replay callsFrom
   monitor-all = ap (λ (j : ℕ). replay (modelOf (bytesOf start)) (view q) (callsFrom s j i) .monitor) (sym none-left) ∙ g .monitor
 
-  pub finishes : {out′ : List ℕ} {size : ℕ} → Sound start → 80 * (length s / 5) + 80 ≤ length before → Wrote out end (tailLine (length s - i)) out′ size → length out′ ≡ length out
+  pub finishes : {out′ : List ℕ} {size : ℕ} → Sound start → 120 * (length s / 5) + 120 ≤ length before → Wrote out end (tailLine (length s - i)) out′ size → length out′ ≡ length out
       → MarkRight start s n before out′ (record { monitor = withState start q; calls = made; size = size })
   finishes {out′} {size} f room wrote kept =
       let fits : size ≤ length out′ = omega (arith, wrote .ends, g .few, g .inside, g .sized, kept, tail-few (length s - i)) in

@@ -25,7 +25,7 @@ pub struct Marked {
 
 // Makes the whole calls of a block, where n calls came before, and writes their lines; bytes left over have a line too.
 pub fn mark(start: Monitor, calls: &[u8], n: u64, out: &mut [u8]) -> Marked
-    requires { ⌜ (Valid start) × ((n + length (now calls) / 5 < 2 ^ 64) × (80 * (length (now calls) / 5) + 80 ≤ length (now out))) ⌝ }
+    requires { ⌜ (Valid start) × ((n + length (now calls) / 5 < 2 ^ 64) × (120 * (length (now calls) / 5) + 120 ≤ length (now out))) ⌝ }
     ensures { λ r. ⌜ MarkRight start (now (calls .entry)) n (now (out .entry)) (now (out .exit)) r ⌝ }
 {
     let size = start.size;

@@ -11,7 +11,7 @@ ghost use Rattle.marking.specs.Marks.{keyText};
 
 // Writes the line of the sheet and, where it loads, those of the calls; answers the text's size.
 pub fn key(sheet: &[u8], calls: &[u8], out: &mut [u8]) -> usize
-    requires { ⌜ 128 + (80 * (length (now calls) / 5) + 80) ≤ length (now out) ⌝ }
+    requires { ⌜ 128 + (120 * (length (now calls) / 5) + 120) ≤ length (now out) ⌝ }
     ensures { λ e. ⌜ Wrote (now (out .entry)) 0 (keyText (now (sheet .entry)) (now (calls .entry))) (now (out .exit)) e ⌝ }
     ensures { λ e. ⌜ Counts e (now (out .exit)) ⌝ }
 {

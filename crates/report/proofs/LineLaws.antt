@@ -5,7 +5,7 @@ use mathlib.Core.List.{_++_}
 use Prim.Native.Nat.{ℕ, zero, suc, _≤_}
 use native.Mathlib.Omega.{arith}
 use lib.ListN.{length, length-append}
-use Rattle.enforcement.specs.Reason.{Reason, I-1, I-2, I-3, I-4, I-5, I-6, I-7, I-8, S-1, S-2, S-3, S-4}
+use Rattle.enforcement.specs.Reason.{Reason, I-1, I-2, I-3, I-4, I-5, I-6, I-7, I-8, S-1, S-2, S-3, S-4, S-5}
 use Rattle.enforcement.specs.Loading.{Counts}
 use Rattle.enforcement.specs.Loading as loading
 use Rattle.enforcement.specs.History.{Outcome, scheduled, held, dropped, played, nothing, lit, dark, refused}
@@ -28,6 +28,7 @@ reason-three S-1 = refl
 reason-three S-2 = refl
 reason-three S-3 = refl
 reason-three S-4 = refl
+reason-three S-5 = refl
 
 pub header-few : (k : Counts) → length (headerText k) ≤ 68
 header-few k =
@@ -40,17 +41,25 @@ header-few k =
       numeral-few (k .actions),
     )
 
-pub outcome-few : (h : ℕ) (o : Outcome) → length (outcomeText h o) ≤ 51
+-- What is played, with its date, and then with its number.
+pub dated-few : (c d : ℕ) → length (figure "played " c ++ figure " " d) ≤ 48
+dated-few c d = omega (arith, length-append (figure "played " c) (figure " " d), numeral-few c, numeral-few d)
+
+numbered-few : (c d n : ℕ) → length (figure "played " c ++ figure " " d ++ figure " " n) ≤ 69
+numbered-few c d n = omega (arith, length-append (figure "played " c ++ figure " " d) (figure " " n), dated-few c d, numeral-few n)
+
+pub outcome-few : (h : ℕ) (o : Outcome) → length (outcomeText h o) ≤ 90
 outcome-few h (scheduled n d) = omega (arith, length-append (figure "scheduled " n) (figure " " d), numeral-few n, numeral-few d)
 outcome-few h held = omega (arith, numeral-few h)
 outcome-few h dropped = omega arith
-outcome-few h (played c d) = omega (arith, length-append (figure "played " c) (figure " " d), numeral-few c, numeral-few d)
+outcome-few h (played c d n t) =
+    omega (arith, length-append (figure "played " c ++ figure " " d ++ figure " " n) (figure " " t), numbered-few c d n, numeral-few t)
 outcome-few h nothing = omega arith
 outcome-few h lit = omega arith
 outcome-few h dark = omega arith
 outcome-few h (refused r) = omega (arith, length-append (ascii "refused ") (reasonText r), reason-three r)
 
-pub answer-few : (a : Answer) → length (answerText a) ≤ 51
+pub answer-few : (a : Answer) → length (answerText a) ≤ 90
 answer-few a = outcome-few (heldCount a) (outcomeOf a)
 
 pub tail-some : (n : ℕ) → (n ≡ 0 → ⊥) → tailLine n ≡ figure "tail " n ++ ascii "\n"

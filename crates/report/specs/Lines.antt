@@ -1,8 +1,8 @@
--- The desk program's lines (document 01, "Course sheets and the desk program").
+-- The desk program's lines (document 01, "Course sheets and the desk program", with numbers by request F-2 of document 02).
 use mathlib.Core.Bool.{Bool, true, false}
 use mathlib.Core.List.{List, [], _++_}
 use Prim.Native.Nat.{ℕ, zero, suc}
-use Rattle.enforcement.specs.Reason.{Reason, I-1, I-2, I-3, I-4, I-5, I-6, I-7, I-8, S-1, S-2, S-3, S-4}
+use Rattle.enforcement.specs.Reason.{Reason, I-1, I-2, I-3, I-4, I-5, I-6, I-7, I-8, S-1, S-2, S-3, S-4, S-5}
 use Rattle.enforcement.specs.Loading.{Counts}
 use Rattle.enforcement.specs.Loading as loading
 use Rattle.enforcement.specs.History.{Outcome, scheduled, held, dropped, played, nothing, lit, dark, refused}
@@ -24,6 +24,7 @@ reasonText S-1 = ascii "S-1"
 reasonText S-2 = ascii "S-2"
 reasonText S-3 = ascii "S-3"
 reasonText S-4 = ascii "S-4"
+reasonText S-5 = ascii "S-5"
 
 -- The first line: locations, clocks and actions; then transitions and accepting locations.
 abbrev pub headerText : Counts → List ℕ
@@ -45,7 +46,7 @@ abbrev pub outcomeText : ℕ → Outcome → List ℕ
 outcomeText h (scheduled n d) = figure "scheduled " n ++ figure " " d
 outcomeText h held = figure "held " h
 outcomeText h dropped = ascii "dropped"
-outcomeText h (played c d) = figure "played " c ++ figure " " d
+outcomeText h (played c d n t) = figure "played " c ++ figure " " d ++ figure " " n ++ figure " " t
 outcomeText h nothing = ascii "none"
 outcomeText h lit = ascii "lit"
 outcomeText h dark = ascii "dark"
@@ -56,7 +57,7 @@ abbrev pub heldCount : Answer → ℕ
 heldCount (Scheduled n d) = 0
 heldCount (Held h) = h
 heldCount Dropped = 0
-heldCount (Played c d) = 0
+heldCount (Played c d n t) = 0
 heldCount Nothing = 0
 heldCount Lit = 0
 heldCount Dark = 0

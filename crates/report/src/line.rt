@@ -10,13 +10,14 @@ ghost use mathlib.Core.Path.{_≡_};
 ghost use mathlib.Core.List.{_++_};
 ghost use Prim.Native.Nat.{_+_, _≤_};
 ghost use lib.ListN.{length};
+ghost use Rattle.enforcement.specs.History.{played};
 ghost use Rattle.retimer.specs.Reasons.{reasonOf};
 ghost use Rattle.retimer.specs.Checked.{figuresOf, checkedOf};
 ghost use Rattle.report.specs.Texts.{ascii, numeral, figure, Wrote};
-ghost use Rattle.report.specs.Lines.{reasonText, headerText, sheetLine, refusedLine, checkedLine, answerText, lampText, callLine, tailLine};
+ghost use Rattle.report.specs.Lines.{reasonText, headerText, sheetLine, refusedLine, checkedLine, outcomeText, answerText, lampText, callLine, tailLine};
 
 // Room for a call's line, and for a sheet's.
-pub const LINE: usize = 80;
+pub const LINE: usize = 120;
 
 pub const SHEET: usize = 128;
 
@@ -37,6 +38,7 @@ fn spelled(r: Reason) -> [u8; 3]
         Reason::S2 => *b"S-2",
         Reason::S3 => *b"S-3",
         Reason::S4 => *b"S-4",
+        Reason::S5 => *b"S-5",
     }
 }
 
@@ -99,16 +101,31 @@ fn put_dated(out: &mut [u8], at: usize, word: &[u8], n: u8, date: u32) -> usize
     put_figure(out, number, b" ", date as u64)
 }
 
+// A played action with its date, its number and its offered date.
+fn put_played(out: &mut [u8], at: usize, action: u8, date: u32, number: u32, offered: u32) -> usize
+    requires { ⌜ at + 90 ≤ length (now out) ⌝ }
+    ensures { λ e. ⌜ Wrote (now (out .entry)) at (outcomeText 0 (played action date number offered)) (now (out .exit)) e ⌝ }
+{
+    let dated = put_dated(out, at, b"played ", action, date);
+    let numbered = put_figure(out, dated, b" ", number as u64);
+    put_figure(out, numbered, b" ", offered as u64)
+}
+
 // What a call answered.
 pub fn put_answer(out: &mut [u8], at: usize, a: Answer) -> usize
-    requires { ⌜ at + 51 ≤ length (now out) ⌝ }
+    requires { ⌜ at + 90 ≤ length (now out) ⌝ }
     ensures { λ e. ⌜ Wrote (now (out .entry)) at (answerText a) (now (out .exit)) e ⌝ }
 {
     match a {
         Answer::Scheduled { count, last } => put_dated(out, at, b"scheduled ", count, last),
         Answer::Held(count) => put_figure(out, at, b"held ", count as u64),
         Answer::Dropped => put(out, at, b"dropped"),
-        Answer::Played { action, date } => put_dated(out, at, b"played ", action, date),
+        Answer::Played {
+            action,
+            date,
+            number,
+            offered,
+        } => put_played(out, at, action, date, number, offered),
         Answer::Nothing => put(out, at, b"none"),
         Answer::Lit => put(out, at, b"lit"),
         Answer::Dark => put(out, at, b"dark"),
@@ -138,7 +155,7 @@ fn put_lamp(out: &mut [u8], at: usize, lit: bool) -> usize
 
 // The line of the call number n: its answer, and the lamp after it.
 pub fn call_line(out: &mut [u8], at: usize, n: u64, a: Answer, lit: bool) -> usize
-    requires { ⌜ at + 80 ≤ length (now out) ⌝ }
+    requires { ⌜ at + 120 ≤ length (now out) ⌝ }
     ensures { λ e. ⌜ Wrote (now (out .entry)) at (callLine n (answerText a) lit) (now (out .exit)) e ⌝ }
 {
     let number = put_number(out, at, n);
@@ -149,7 +166,7 @@ pub fn call_line(out: &mut [u8], at: usize, n: u64, a: Answer, lit: bool) -> usi
 
 // The line for bytes left over, where there are any.
 pub fn tail_line(out: &mut [u8], at: usize, n: usize) -> usize
-    requires { ⌜ at + 80 ≤ length (now out) ⌝ }
+    requires { ⌜ at + 120 ≤ length (now out) ⌝ }
     ensures { λ e. ⌜ Wrote (now (out .entry)) at (tailLine n) (now (out .exit)) e ⌝ }
 {
     if n == 0 {

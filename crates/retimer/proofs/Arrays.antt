@@ -2,14 +2,16 @@
 -- Assumes nothing.
 use mathlib.Core.Path.{_≡_, refl, ap, sym, _∙_}
 use mathlib.Core.List.{List, [], _∷_, _++_, map, map-append, append-assoc, append-nil}
-use Prim.Native.Nat.{ℕ, zero, suc, _+_, _-_, _<_}
+use Prim.Native.Nat.{ℕ, zero, suc, _+_, _-_, _≤_, _<_}
 use native.Mathlib.Omega.{arith}
 use native.Mathlib.Numerals.{add-one}
 use lib.ListN.{length, take, drop, getD, set, replicate, length-drop, length-map}
 use lib.Seq.{take-suc-set, take-suc, take-nil, getD-drop, drop-set-lt, drop-drop, take-length, length-take-le}
-use Rattle.enforcement.specs.History.{Request, Slot, place}
-use Rattle.retimer.specs.declared.limits.Slot as declared
+use Rattle.enforcement.specs.History.{Request, Slot, actionsOf, place}
+use Rattle.retimer.specs.declared.limits.Request as declared
+use Rattle.retimer.specs.declared.limits.Slot as slots
 use Rattle.retimer.specs.View.{requestOf, slotOf}
+use Rattle.retimer.specs.Calls.{noRequest}
 
 -- ---- Zeros
 
@@ -23,11 +25,16 @@ zero-at (suc n) (suc i) = zero-at n i
 pub copied-more : (h r : List ℕ) (i : ℕ) → i < length h → i < length r → take i r ≡ take i h → take (i + 1) (set r i (getD h i 0)) ≡ take (i + 1) h
 copied-more h r i a b e = rw (add-one, take-suc-set r i (getD h i 0) b, take-suc h i 0 a, e)
 
-pub copied-and-one : (h r : List ℕ) (i n c : ℕ) → i ≡ n → n < length r → take i r ≡ take i h → take (n + 1) (set r n c) ≡ take n h ++ (c ∷ [])
-copied-and-one h r i n c z b e = rw (add-one, take-suc-set r n c b) (ap (λ (l : List ℕ). l ++ (c ∷ [])) (rw z at e))
-
 pub copied-whole : (h r : List ℕ) (i : ℕ) → i ≡ length h → take i r ≡ take i h → take (length h) r ≡ h
 copied-whole h r i z e = (rw z at e) ∙ take-length h
+
+-- ---- The actions of requests are copied, place by place
+
+pub actions-more : (h : List declared.Request) (r : List ℕ) (i : ℕ) → i < length h → i < length r → take i r ≡ actionsOf (map requestOf (take i h)) → take (i + 1) (set r i (getD h i noRequest .action)) ≡ actionsOf (map requestOf (take (i + 1) h))
+actions-more h r i a b e = rw (add-one, take-suc-set r i (getD h i noRequest .action) b, take-suc h i noRequest a, map-append, map-append, e)
+
+pub actions-whole : (h : List declared.Request) (r : List ℕ) (i n : ℕ) → i ≡ n → take i r ≡ actionsOf (map requestOf (take i h)) → take n r ≡ actionsOf (map requestOf (take n h))
+actions-whole h r i n z e = rw z at e
 
 -- ---- Slots are added after the first n, place by place
 
@@ -38,25 +45,30 @@ place-snoc [] (x ∷ ds) q d e = absurd (omega arith)
 place-snoc (r ∷ rs) [] q d e = absurd (omega arith)
 place-snoc (r ∷ rs) (x ∷ ds) q d e = ap (λ (l : List Slot). record { request = r; date = x } ∷ l) (place-snoc rs ds q d (omega arith))
 
-pub slots-none : (r : List declared.Slot) (cs ds : List ℕ) (n : ℕ) → map slotOf (take (n + 0) r) ≡ map slotOf (take n r) ++ place (map requestOf (take 0 cs)) (take 0 ds)
+pub slots-none : (r : List slots.Slot) (rs : List declared.Request) (ds : List ℕ) (n : ℕ) → map slotOf (take (n + 0) r) ≡ map slotOf (take n r) ++ place (map requestOf (take 0 rs)) (take 0 ds)
 unfolding place
-slots-none r cs ds n = let z : n + 0 ≡ n = omega arith in rw z (sym (append-nil (map slotOf (take n r))))
+slots-none r rs ds n = let z : n + 0 ≡ n = omega arith in rw z (sym (append-nil (map slotOf (take n r))))
 
-pub slots-more : (s r : List declared.Slot) (cs ds : List ℕ) (n i : ℕ) → i < length cs → i < length ds → n + i < length r
-    → map slotOf (take (n + i) r) ≡ map slotOf (take n s) ++ place (map requestOf (take i cs)) (take i ds)
-    → map slotOf (take (n + (i + 1)) (set r (n + i) (record { action = getD cs i 0; date = getD ds i 0 }))) ≡ map slotOf (take n s) ++ place (map requestOf (take (i + 1) cs)) (take (i + 1) ds)
-slots-more s r cs ds n i a b h e =
-    let l : length (map requestOf (take i cs)) ≡ length (take i ds) = length-map (take i cs) requestOf ∙ length-take-le i cs (omega arith) ∙ sym (length-take-le i ds (omega arith)) in
+slots-one : (s r : List slots.Slot) (rs : List Request) (x : declared.Request) (ds : List ℕ) (n i : ℕ) → length rs ≡ i → i < length ds → n + i < length r
+    → map slotOf (take (n + i) r) ≡ map slotOf (take n s) ++ place rs (take i ds)
+    → map slotOf (take (n + (i + 1)) (set r (n + i) (record { request = x; date = getD ds i 0 }))) ≡ map slotOf (take n s) ++ place (rs ++ (requestOf x ∷ [])) (take (i + 1) ds)
+slots-one s r rs x ds n i l b h e =
     let j : n + (i + 1) ≡ suc (n + i) = omega arith in
-    let p : map requestOf (take (i + 1) cs) ≡ map requestOf (take i cs) ++ (requestOf (getD cs i 0) ∷ []) = rw (add-one, take-suc cs i 0 a, map-append) in
     let q : take (i + 1) ds ≡ take i ds ++ (getD ds i 0 ∷ []) = rw (add-one, take-suc ds i 0 b) in
-    rw (j, take-suc-set r (n + i) (record { action = getD cs i 0; date = getD ds i 0 }) h, map-append, e, p, q, place-snoc (map requestOf (take i cs)) (take i ds) (requestOf (getD cs i 0)) (getD ds i 0) l)
-    (append-assoc (map slotOf (take n s)) (place (map requestOf (take i cs)) (take i ds)) _)
+    let m : length rs ≡ length (take i ds) = l ∙ sym (length-take-le i ds (omega arith)) in
+    rw (j, take-suc-set r (n + i) (record { request = x; date = getD ds i 0 }) h, map-append, e, q, place-snoc rs (take i ds) (requestOf x) (getD ds i 0) m) (append-assoc (map slotOf (take n s)) (place rs (take i ds)) _)
 
-pub slots-whole : (s r : List declared.Slot) (cs ds : List ℕ) (n i k : ℕ) → i ≡ k
-    → map slotOf (take (n + i) r) ≡ map slotOf (take n s) ++ place (map requestOf (take i cs)) (take i ds)
-    → map slotOf (take (n + k) r) ≡ map slotOf (take n s) ++ place (map requestOf (take k cs)) (take k ds)
-slots-whole s r cs ds n i k z e = rw z at e
+module _ (s r : List slots.Slot) (rs : List declared.Request) (ds : List ℕ) (n i : ℕ) (b : i < length ds) (h : n + i < length r) (e : map slotOf (take (n + i) r) ≡ map slotOf (take n s) ++ place (map requestOf (take i rs)) (take i ds)) where
+  requests-length : i ≤ length rs → length (map requestOf (take i rs)) ≡ i
+  requests-length a = length-map (take i rs) requestOf ∙ length-take-le i rs a
+
+  pub slots-more : i < length rs → map slotOf (take (n + (i + 1)) (set r (n + i) (record { request = getD rs i noRequest; date = getD ds i 0 }))) ≡ map slotOf (take n s) ++ place (map requestOf (take (i + 1) rs)) (take (i + 1) ds)
+  slots-more a =
+      let p : map requestOf (take (i + 1) rs) ≡ map requestOf (take i rs) ++ (requestOf (getD rs i noRequest) ∷ []) = rw (add-one, take-suc rs i noRequest a, map-append) in
+      slots-one s r (map requestOf (take i rs)) (getD rs i noRequest) ds n i (requests-length (omega arith)) b h e ∙ ap (λ (qs : List Request). map slotOf (take n s) ++ place qs (take (i + 1) ds)) (sym p)
+
+  pub slots-last : (x : declared.Request) (k : ℕ) → i ≡ k → i ≤ length rs → map slotOf (take (n + (k + 1)) (set r (n + k) (record { request = x; date = getD ds k 0 }))) ≡ map slotOf (take n s) ++ place (map requestOf (take k rs) ++ (requestOf x ∷ [])) (take (k + 1) ds)
+  slots-last x k z a = rw z at (slots-one s r (map requestOf (take i rs)) x ds n i (requests-length a) b h e)
 
 -- ---- A list is moved down by one, place by place
 

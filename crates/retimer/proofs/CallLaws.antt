@@ -3,13 +3,13 @@
 use mathlib.Core.Path.{_≡_, refl, ap, sym, _∙_, subst⁻¹}
 use mathlib.Core.Bool.{Bool, true, false, cond}
 use mathlib.Core.List.{List, [], _∷_, _++_}
-use Prim.Native.Nat.{ℕ, _+_, _-_, _≤_, _<_, max}
+use Prim.Native.Nat.{ℕ, suc, _+_, _-_, _≤_, _<_, max}
 use native.Mathlib.Omega.{arith}
 use lib.Dec.{leb, ltb}
 use lib.ListN.{length}
 use lib.Seq.{length-take-le}
-use borrow.Author.Tests.{lt-ltb, le-ltb}
-use Rattle.enforcement.specs.Limits.{maxCount, maxScheduled, maxDate}
+use borrow.Author.Tests.{lt-ltb, le-ltb, lt-leb, le-leb}
+use Rattle.enforcement.specs.Limits.{maxCount, maxScheduled, maxDate, maxNumbered}
 use Rattle.enforcement.specs.Automaton.{Bytes, Automaton, automaton, actions}
 use Rattle.enforcement.specs.TimedWord.{Configuration}
 use Rattle.enforcement.specs.History.{History, fresh, actionsOf, dropped, Call, offer, collect, lamp, end, call}
@@ -17,7 +17,7 @@ use Rattle.enforcement.specs.History as history
 use Rattle.enforcement.specs.Model.{Prospect, ticks, extensible, dead, Compiled, compile, advance}
 use Rattle.enforcement.specs.Monitor.{isLit, lampLit, earliest, standing, joins, dated, placed, kept, decided, checked, offered, taken, oldest, picked, collected, answer}
 use Rattle.enforcement.specs.Monitor as model
-use Rattle.enforcement.specs.Demands.{StandsFor, Demand2, Demand2All, InTime}
+use Rattle.enforcement.specs.Demands.{StandsFor, Demand2, Demand2All, Admitted}
 use Rattle.enforcement.proofs.Loading.{bounded}
 use Rattle.enforcement.proofs.Histories.{history-append}
 use Rattle.enforcement.proofs.Progress.{history-lit}
@@ -25,13 +25,13 @@ use Rattle.enforcement.proofs.Model.{lit-shows, not-dark-lit, lamp-rule}
 use Rattle.enforcement.proofs.Promises.{demand-2, exhausted-drops}
 use Rattle.retimer.specs.declared.limits.State.{State}
 use Rattle.retimer.specs.declared.limits.Monitor.{Monitor}
-use Rattle.retimer.specs.declared.state.Answer.the-variants.{Dropped, Lit, Dark, Refused}
+use Rattle.retimer.specs.declared.state.Answer.the-variants.{Lit, Dark, Refused}
 use Rattle.retimer.specs.declared.state.Moved.{Moved}
-use Rattle.retimer.specs.declared.reason.Reason.the-variants.{I7, I8, S1}
+use Rattle.retimer.specs.declared.reason.Reason.the-variants.{I7, I8, S1, S5}
 use Rattle.retimer.specs.Readings.{located}
 use Rattle.retimer.specs.Optimum.{modelOf}
 use Rattle.retimer.specs.View.{bytesOf, view, Sound, Recorded, StateValid, Valid}
-use Rattle.retimer.specs.Calls.{movedOf, movedTo, lampAt, withState, Done, MoveRight, CallRight}
+use Rattle.retimer.specs.Calls.{movedOf, dropping, lampAt, withState, Done, MoveRight, CallRight}
 use Rattle.retimer.proofs.Views.{answering, done-same, refused-done, plain-done, dropped-done}
 
 -- ---- From the parts to the call
@@ -98,25 +98,37 @@ view-date : (q : State) → view q .date ≡ q .date
 unfolding view
 view-date q = refl
 
+view-numbered : (q : State) → view q .numbered ≡ q .numbered
+unfolding view
+view-numbered q = refl
+
 module _ {s : Bytes} {live : List ℕ} {q : State} (v : StateValid s live q) (c t : ℕ) where
-  offer-is : (x y z : Bool) → ltb c (actions s) ≡ x → ltb maxDate t ≡ y → ltb t (q .date) ≡ z → checked (modelOf s) (view q) c t x y z ≡ answer (modelOf s) (view q) (offer c t)
+  offer-is : (x y z u : Bool) → ltb c (actions s) ≡ x → ltb maxDate t ≡ y → ltb t (q .date) ≡ z → leb maxNumbered (q .numbered) ≡ u → checked (modelOf s) (view q) c t x y z u ≡ answer (modelOf s) (view q) (offer c t)
   unfolding answer offered
-  offer-is x y z e f g = rw (known-is, view-date, e, f, g)
+  offer-is x y z u e f g h = rw (known-is, view-date, view-numbered, e, f, g, h)
 
   pub offer-unknown : actions s ≤ c → MoveRight s live q (offer c t) (record { state = q; answer = Refused I7 })
   unfolding checked
-  offer-unknown h = done-right v (offer c t) _ (refused-done q I7 _ (v .sound) (offer-is false (ltb maxDate t) (ltb t (q .date)) (le-ltb c (actions s) h) refl refl))
+  offer-unknown h = done-right v (offer c t) _ (refused-done q I7 _ (v .sound) (offer-is false (ltb maxDate t) (ltb t (q .date)) (leb maxNumbered (q .numbered)) (le-ltb c (actions s) h) refl refl refl))
 
   pub offer-late : c < actions s → maxDate < t → MoveRight s live q (offer c t) (record { state = q; answer = Refused I8 })
   unfolding checked
-  offer-late h k = done-right v (offer c t) _ (refused-done q I8 _ (v .sound) (offer-is true true (ltb t (q .date)) (lt-ltb c (actions s) h) (lt-ltb maxDate t k) refl))
+  offer-late h k = done-right v (offer c t) _ (refused-done q I8 _ (v .sound) (offer-is true true (ltb t (q .date)) (leb maxNumbered (q .numbered)) (lt-ltb c (actions s) h) (lt-ltb maxDate t k) refl refl))
 
   pub offer-past : c < actions s → t ≤ maxDate → t < q .date → MoveRight s live q (offer c t) (record { state = q; answer = Refused S1 })
   unfolding checked
-  offer-past h k p = done-right v (offer c t) _ (refused-done q S1 _ (v .sound) (offer-is true false true (lt-ltb c (actions s) h) (le-ltb maxDate t k) (lt-ltb t (q .date) p)))
+  offer-past h k p = done-right v (offer c t) _ (refused-done q S1 _ (v .sound) (offer-is true false true (leb maxNumbered (q .numbered)) (lt-ltb c (actions s) h) (le-ltb maxDate t k) (lt-ltb t (q .date) p) refl))
 
-  pub offer-decided : {r : Moved} → c < actions s → t ≤ maxDate → q .date ≤ t → Done s live q (checked (modelOf s) (view q) c t true false false) r → MoveRight s live q (offer c t) r
-  offer-decided {r} h k p d = done-right v (offer c t) r (done-same d (offer-is true false false (lt-ltb c (actions s) h) (le-ltb maxDate t k) (le-ltb t (q .date) p)))
+  pub offer-unnumbered : c < actions s → t ≤ maxDate → q .date ≤ t → maxNumbered ≤ q .numbered → MoveRight s live q (offer c t) (record { state = q; answer = Refused S5 })
+  unfolding checked
+  offer-unnumbered h k p n = done-right v (offer c t) _ (refused-done q S5 _ (v .sound) (offer-is true false false true (lt-ltb c (actions s) h) (le-ltb maxDate t k) (le-ltb t (q .date) p) (le-leb maxNumbered (q .numbered) n)))
+
+  module _ (known : c < actions s) (early : t ≤ maxDate) (current : q .date ≤ t) (countable : q .numbered < maxNumbered) where
+    pub passed-is : checked (modelOf s) (view q) c t true false false false ≡ answer (modelOf s) (view q) (offer c t)
+    passed-is = offer-is true false false false (lt-ltb c (actions s) known) (le-ltb maxDate t early) (le-ltb t (q .date) current) (lt-leb maxNumbered (q .numbered) countable)
+
+    pub offer-decided : {r : Moved} → Done s live q (checked (modelOf s) (view q) c t true false false false) r → MoveRight s live q (offer c t) r
+    offer-decided {r} d = done-right v (offer c t) r (done-same d passed-is)
 
 -- ---- A collection, by its first checks
 
@@ -140,9 +152,9 @@ module _ {s : Bytes} {live : List ℕ} {q : State} (v : StateValid s live q) (t 
 -- ---- A lit lamp
 
 -- Only "dropped" is answered by dropping.
-decided-dropped : (m : Compiled) (b : model.Monitor) (c t : ℕ) (g : Configuration → ℕ → List ℕ) (a : Prospect) → decided m b c t g a .outcome ≡ dropped → answering dropped (dated m b t) ≡ decided m b c t g a
+decided-dropped : (m : Compiled) (b : model.Monitor) (c t : ℕ) (g : Configuration → ℕ → List ℕ) (a : Prospect) → decided m b c t g a .outcome ≡ dropped → answering dropped (dated m b t (suc (b .numbered))) ≡ decided m b c t g a
 unfolding decided placed kept
-decided-dropped m b c t g (ticks n) e = absurd (go (ltb maxDate (earliest b t + n)) (ltb (maxScheduled - length (b .schedule)) (length (joins b c))) e)
+decided-dropped m b c t g (ticks n) e = absurd (go (ltb maxDate (earliest b t + n)) (ltb (maxScheduled - length (b .schedule)) (length (joins b c t))) e)
   where
     go : (x y : Bool) → placed m b c t (g (standing b t) (earliest b t)) (earliest b t + n) x y .outcome ≡ dropped → ⊥
     go true y e = let z : _≡_ {A = ℕ} 0 1 = cc in omega arith
@@ -197,13 +209,13 @@ module _ {s : Bytes} {live : List ℕ} {q : State} (v : StateValid s live q) whe
         ∙ oldest-lit (modelOf s) (view q) t (view q .schedule)
 
     -- An offer is dropped.
-    pub offer-lit : (c : ℕ) → c < actions s → MoveRight s live q (offer c t) (record { state = movedTo q t true; answer = Dropped })
-    unfolding checked
-    offer-lit c known =
-        let i : InTime a (view q) c t = record { known = known; early = early; current = subst⁻¹ (λ (d : ℕ). d ≤ t) (view-date q) current } in
+    pub offer-lit : (c : ℕ) → c < actions s → q .numbered < maxNumbered → MoveRight s live q (offer c t) (dropping q t true)
+    unfolding checked view
+    offer-lit c known countable =
+        let i : Admitted a (view q) c t = record { known = known; early = early; current = current; countable = countable } in
         let e : answer (modelOf s) (view q) (offer c t) .outcome ≡ dropped = exhausted-drops a (bounded s (v .sound .loads)) (view q) (record { history = past; stands = v .recorded .stands; not-dark = not-dark }) c t i in
-        offer-decided v c t known early current
-        (dropped-done q t true _ (v .sound) early lamp-later (decided-dropped (modelOf s) (view q) c t _ _ (ap (λ (x : model.Answered). x .outcome) (offer-is v c t true false false (lt-ltb c (actions s) known) (le-ltb maxDate t early) (le-ltb t (q .date) current)) ∙ e)))
+        offer-decided v c t known early current countable
+        (dropped-done q t true _ (v .sound) early countable lamp-later (decided-dropped (modelOf s) (view q) c t _ _ (ap (λ (x : model.Answered). x .outcome) (passed-is v c t known early current countable) ∙ e)))
 
 -- ---- The lamp
 

@@ -10,7 +10,7 @@ use Rattle.enforcement.specs.Loading.{Loads}
 use Rattle.enforcement.specs.History.{fresh, Call, offer, lamp, Outcome, scheduled, held, dropped, played, nothing, lit, dark, refused, HistoryOf, Schedulable}
 use Rattle.enforcement.specs.Monitor.{freshMonitor, answer, replay}
 use Rattle.enforcement.specs.Monitor as model
-use Rattle.enforcement.specs.Demands.{StandsFor, ModelDemand3, ModelDemand3All, InTime, calls, lampAfter}
+use Rattle.enforcement.specs.Demands.{StandsFor, ModelDemand3, ModelDemand3All, Admitted, calls, lampAfter}
 use Rattle.enforcement.proofs.Loading.{bounded}
 use Rattle.enforcement.proofs.Model.{replay-append}
 use Rattle.enforcement.proofs.Promises.{model-demand-3}
@@ -63,7 +63,7 @@ abbrev answerFor : Outcome → Answer → Answer
 answerFor (scheduled n d) a = Scheduled n d
 answerFor held a = a
 answerFor dropped a = Dropped
-answerFor (played c d) a = Played c d
+answerFor (played c d n t) a = Played c d n t
 answerFor nothing a = Nothing
 answerFor lit a = Lit
 answerFor dark a = Dark
@@ -74,7 +74,7 @@ determined : (a : Answer) → answerFor (outcomeOf a) a ≡ a
 determined (Scheduled n d) = refl
 determined (Held n) = refl
 determined Dropped = refl
-determined (Played c d) = refl
+determined (Played c d n t) = refl
 determined Nothing = refl
 determined Lit = refl
 determined Dark = refl
@@ -123,12 +123,12 @@ module _ (s : Bytes) (b₀ : Monitor) (f : FreshRight s b₀) (ks : List Call) (
   lit-now : b .state .lit ≡ lampAfter (automaton s) ks
   lit-now = view-lit (b .state) monitor-is
 
-  all-dropped : b .state .lit ≡ true → (more : List Call) (ys : List Answer) (b′ : Monitor) → Made b more ys b′ → (c t : ℕ) → InTime (automaton s) (viewOf b′) c t → (q : Answered) → CallRight b′ (offer c t) q → q .answer ≡ Dropped
+  all-dropped : b .state .lit ≡ true → (more : List Call) (ys : List Answer) (b′ : Monitor) → Made b more ys b′ → (c t : ℕ) → Admitted (automaton s) (viewOf b′) c t → (q : Answered) → CallRight b′ (offer c t) q → q .answer ≡ Dropped
   all-dropped e more ys b′ n c t i q w =
       let g = after-more more ys b′ n in
       answer-of (q .answer) dropped
       (ap (λ (x : model.Answered). x .outcome) (w .is) ∙ ap₂ (λ (x : Bytes) (v : model.Monitor). answer (modelOf x) v (offer c t) .outcome) (g .1) (g .0)
-      ∙ model-right ks .drops (sym lit-now ∙ e) more c t (subst (λ (v : model.Monitor). InTime (automaton s) v c t) (g .0) i))
+      ∙ model-right ks .drops (sym lit-now ∙ e) more c t (subst (λ (v : model.Monitor). Admitted (automaton s) v c t) (g .0) i))
 
   pub code-demand-3 : CodeDemand3 s ks xs b
   code-demand-3 = let z = model-right ks in record {

@@ -8,7 +8,7 @@ use Prim.Native.Nat.{ℕ, _≤_, min}
 use native.Mathlib.Omega.{arith}
 use lib.ListN.{length, take}
 use borrow.Author.Tests.{eq-eqb, ne-eqb}
-use Rattle.enforcement.specs.Limits.{maxSize, maxCount, maxScheduled}
+use Rattle.enforcement.specs.Limits.{maxSize}
 use Rattle.enforcement.specs.Automaton.{Bytes, automaton, clocks, initial}
 use Rattle.enforcement.specs.Loading.{Loads, check}
 use Rattle.enforcement.specs.Reason as model-reason
@@ -20,7 +20,6 @@ use Rattle.enforcement.specs.Monitor as model
 use Rattle.enforcement.specs.Demands.{StandsFor}
 use Rattle.enforcement.proofs.Loading.{size-fits, initial-fits, loads-check, check-right, bounded}
 use Rattle.enforcement.proofs.Model as model-laws
-use Rattle.retimer.specs.declared.limits.Slot.{Slot}
 use Rattle.retimer.specs.declared.limits.Monitor.{Monitor}
 use Rattle.retimer.specs.declared.reason.Reason.{Reason}
 use Rattle.retimer.specs.declared.sheet.Counts.{Counts}
@@ -32,7 +31,7 @@ use Rattle.retimer.specs.Readings.{located, Standing}
 use Rattle.retimer.specs.Optimum.{modelOf, LampAsked}
 use Rattle.retimer.specs.Live.{LiveTable}
 use Rattle.retimer.specs.View.{view, viewOf}
-use Rattle.retimer.specs.Calls.{FreshRight}
+use Rattle.retimer.specs.Calls.{initialState, FreshRight}
 
 -- ---- The check's answer
 
@@ -55,8 +54,8 @@ refused-loads s v r e f l =
 -- ---- A fresh box
 
 -- The box of a sheet: its bytes in front of b, its live table, no action pending or scheduled, at the initial location with a second clock that reads y, and the lamp.
-abbrev pub madeOf : Bytes → Bytes → List ℕ → List ℕ → List Slot → ℕ → Bool → Monitor
-madeOf s b live pending slots y lit = record { bytes = b; size = length s; live = live; state = record { date = 0; pending = pending; held = 0; schedule = slots; planned = 0; location = initial s; readings = 0 ∷ y ∷ []; last = 0; lit = lit } }
+abbrev pub madeOf : Bytes → Bytes → List ℕ → ℕ → Bool → Monitor
+madeOf s b live y lit = record { bytes = b; size = length s; live = live; state = initialState (initial s) (0 ∷ y ∷ []) lit }
 
 -- The second clock's reading, saturated where there is no second clock.
 pub second-is : (s : Bytes) (y : ℕ) → ((clocks s ≡ 1) × (y ≡ top)) ⊎ ((clocks s ≡ 1 → ⊥) × (y ≡ 0)) → y ≡ cond (oneClock (automaton s)) top 0
@@ -75,22 +74,22 @@ module _ (s : Bytes) (y : ℕ) (loads : Loads s) (second : y ≡ cond (oneClock 
   pub fresh-asked : {live : List ℕ} → LiveTable s live → LampAsked s live (initial s) (0 ∷ y ∷ [])
   fresh-asked t = record { loads = loads; table = t; standing = fresh-stands }
 
-module _ (s b : Bytes) (live pending : List ℕ) (slots : List Slot) (y : ℕ) (lit : Bool) (loads : Loads s) (front : take (length s) b ≡ s) (second : y ≡ cond (oneClock (automaton s)) top 0) where
-  fresh-view : lit ≡ isLit (modelOf s) (located (initial s) (0 ∷ y ∷ [])) [] → viewOf (madeOf s b live pending slots y lit) ≡ freshMonitor (automaton s)
+module _ (s b : Bytes) (live : List ℕ) (y : ℕ) (lit : Bool) (loads : Loads s) (front : take (length s) b ≡ s) (second : y ≡ cond (oneClock (automaton s)) top 0) where
+  fresh-view : lit ≡ isLit (modelOf s) (located (initial s) (0 ∷ y ∷ [])) [] → viewOf (madeOf s b live y lit) ≡ freshMonitor (automaton s)
   unfolding view lampLit
   fresh-view none = ap (λ (x : Bool). viewAt y x) none ∙ ap (λ (n : ℕ). viewAt n (isLit (modelOf s) (located (initial s) (0 ∷ n ∷ [])) [])) second ∙ go (oneClock (automaton s))
     where
       viewAt : ℕ → Bool → model.Monitor
-      viewAt n x = record { date = 0; pending = []; schedule = []; configuration = record { location = initial s; x = 0; y = n }; last = 0; lit = x }
+      viewAt n x = record { date = 0; pending = []; schedule = []; configuration = record { location = initial s; x = 0; y = n }; last = 0; numbered = 0; lit = x }
 
       go : (one : Bool) → viewAt (cond one top 0) (isLit (modelOf s) (located (initial s) (0 ∷ cond one top 0 ∷ [])) []) ≡ withLamp (modelOf s) (viewAt (cond one top (min 0 top)) false)
       go true = refl
       go false = refl
 
-  pub fresh-right : length b ≡ maxSize → LiveTable s live → length pending ≡ maxCount → length slots ≡ maxScheduled → lit ≡ isLit (modelOf s) (located (initial s) (0 ∷ y ∷ [])) [] → FreshRight s (madeOf s b live pending slots y lit)
-  fresh-right n t p q none =
-      let v : viewOf (madeOf s b live pending slots y lit) ≡ freshMonitor (automaton (take (length s) b)) = rw front (fresh-view none) in
-      let w : StandsFor (automaton (take (length s) b)) (viewOf (madeOf s b live pending slots y lit)) (fresh (automaton (take (length s) b))) =
+  pub fresh-right : length b ≡ maxSize → LiveTable s live → lit ≡ isLit (modelOf s) (located (initial s) (0 ∷ y ∷ [])) [] → FreshRight s (madeOf s b live y lit)
+  fresh-right n t none =
+      let v : viewOf (madeOf s b live y lit) ≡ freshMonitor (automaton (take (length s) b)) = rw front (fresh-view none) in
+      let w : StandsFor (automaton (take (length s) b)) (viewOf (madeOf s b live y lit)) (fresh (automaton (take (length s) b))) =
       subst⁻¹ (λ (x : model.Monitor). StandsFor (automaton (take (length s) b)) x (fresh (automaton (take (length s) b)))) v (model-laws.fresh-stands (automaton (take (length s) b)) (bounded (take (length s) b) (rw front loads))) in
       record {
         is = v;
@@ -103,13 +102,14 @@ module _ (s b : Bytes) (live pending : List ℕ) (slots : List Slot) (y : ℕ) (
             state = record {
               loads = rw front loads;
               table = rw front t;
-              pending-sized = p;
+              pending-sized = refl;
               held-fits = omega arith;
-              schedule-sized = q;
+              schedule-sized = refl;
               planned-fits = omega arith;
               standing = rw front (fresh-stands s y loads second);
               date-fits = omega arith;
               last-fits = omega arith;
+              numbered-fits = omega arith;
             };
           };
           recorded = record { past = []; outcomes = []; history = fresh (automaton (take (length s) b)); recorded = end; stands = w };

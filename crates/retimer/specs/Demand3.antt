@@ -7,7 +7,7 @@ use Prim.Native.Nat.{ℕ}
 use Rattle.enforcement.specs.Automaton.{Bytes, automaton}
 use Rattle.enforcement.specs.History.{History, fresh, Call, offer, lamp, Outcome, HistoryOf, Schedulable}
 use Rattle.enforcement.specs.History as reference
-use Rattle.enforcement.specs.Demands.{StandsFor, InTime}
+use Rattle.enforcement.specs.Demands.{StandsFor, Admitted}
 use Rattle.retimer.specs.declared.limits.Monitor.{Monitor}
 use Rattle.retimer.specs.declared.state.Answer.{Answer}
 use Rattle.retimer.specs.declared.state.Answer.the-variants.{Dropped, Lit, Dark}
@@ -24,9 +24,9 @@ abbrev pub outcomesOf : List Answer → List Outcome
 outcomesOf xs = map outcomeOf xs
 
 -- Of the calls ks on a fresh box of the sheet s, which answered xs and left the box b. The outcomes are those of the calls' history, which is the only one, and
--- the box stands for it: it has its date, pending actions and schedule, and the configuration and date last reached. The lamp that b stores is lit exactly when no run of further offers could get one more action
+-- the box stands for it: it has its date, pending actions and schedule, with their numbers and offered dates, its count, and the configuration and date last reached. The lamp that b stores is lit exactly when no run of further offers could get one more action
 -- scheduled, else dark, which is document 01's rule; a lamp call on b answers it. Once lit, the lamp is lit after every longer list, and there every offer that is not refused for its
--- action or date is dropped.
+-- action or date, nor with S-5, is dropped.
 pub record CodeDemand3 (s : Bytes) (ks : List Call) (xs : List Answer) (b : Monitor) : Type 0 where
   pub history : History
   pub recorded : HistoryOf (automaton s) (fresh (automaton s)) ks (outcomesOf xs) history
@@ -37,6 +37,6 @@ pub record CodeDemand3 (s : Bytes) (ks : List Call) (xs : List Answer) (b : Moni
   pub rule-is : reference.Dark (automaton s) history ↔ Schedulable (automaton s) history
   pub answers-lamp : (r : Answered) → CallRight b lamp r → r .answer ≡ cond (b .state .lit) Lit Dark
   pub stays-lit : b .state .lit ≡ true → (more : List Call) (ys : List Answer) (b′ : Monitor) → Made b more ys b′ → b′ .state .lit ≡ true
-  pub drops : b .state .lit ≡ true → (more : List Call) (ys : List Answer) (b′ : Monitor) → Made b more ys b′ → (c t : ℕ) → InTime (automaton s) (viewOf b′) c t → (q : Answered) → CallRight b′ (offer c t) q → q .answer ≡ Dropped
+  pub drops : b .state .lit ≡ true → (more : List Call) (ys : List Answer) (b′ : Monitor) → Made b more ys b′ → (c t : ℕ) → Admitted (automaton s) (viewOf b′) c t → (q : Answered) → CallRight b′ (offer c t) q → q .answer ≡ Dropped
   pub sheet-is : bytesOf b ≡ s
   pub valid : Valid b

@@ -3,13 +3,14 @@ use mathlib.Core.Path.{_≡_}
 use mathlib.Core.List.{List, map}
 use Prim.Native.Nat.{ℕ, _≤_}
 use lib.ListN.{length, take}
-use Rattle.enforcement.specs.Limits.{maxSize, maxCount, maxScheduled, maxDate}
+use Rattle.enforcement.specs.Limits.{maxSize, maxCount, maxScheduled, maxDate, maxNumbered}
 use Rattle.enforcement.specs.Automaton.{Bytes, Automaton, automaton}
 use Rattle.enforcement.specs.Loading.{Loads}
-use Rattle.enforcement.specs.History.{Request, Call, Outcome, History, fresh, HistoryOf}
+use Rattle.enforcement.specs.History.{Call, Outcome, History, fresh, HistoryOf}
 use Rattle.enforcement.specs.History as history
 use Rattle.enforcement.specs.Monitor as model
 use Rattle.enforcement.specs.Demands.{StandsFor}
+use Rattle.retimer.specs.declared.limits.Request.{Request}
 use Rattle.retimer.specs.declared.limits.Slot.{Slot}
 use Rattle.retimer.specs.declared.limits.State.{State}
 use Rattle.retimer.specs.declared.limits.Monitor.{Monitor}
@@ -23,21 +24,21 @@ bytesOf b = take (b .size) (b .bytes)
 abbrev pub automatonOf : Monitor → Automaton
 automatonOf b = automaton (bytesOf b)
 
-abbrev pub requestOf : ℕ → Request
-requestOf c = record { action = c }
+abbrev pub requestOf : Request → history.Request
+requestOf r = record { action = r .action; number = r .number; offered = r .offered }
 
 abbrev pub slotOf : Slot → history.Slot
-slotOf e = record { request = requestOf (e .action); date = e .date }
+slotOf e = record { request = requestOf (e .request); date = e .date }
 
-abbrev pub pendingOf : State → List Request
+abbrev pub pendingOf : State → List history.Request
 pendingOf q = map requestOf (take (q .held) (q .pending))
 
 abbrev pub scheduleOf : State → List history.Slot
 scheduleOf q = map slotOf (take (q .planned) (q .schedule))
 
--- The box: date, held list, schedule, the configuration and date that the last event ever scheduled reached, and the lamp.
+-- The box: date, held list, schedule, the configuration and date that the last event ever scheduled reached, how many offers are numbered, and the lamp.
 unfoldable pub view : State → model.Monitor
-view q = record { date = q .date; pending = pendingOf q; schedule = scheduleOf q; configuration = located (q .location) (q .readings); last = q .last; lit = q .lit }
+view q = record { date = q .date; pending = pendingOf q; schedule = scheduleOf q; configuration = located (q .location) (q .readings); last = q .last; numbered = q .numbered; lit = q .lit }
 
 abbrev pub viewOf : Monitor → model.Monitor
 viewOf b = view (b .state)
@@ -53,6 +54,7 @@ pub record StateSound (s : Bytes) (live : List ℕ) (q : State) : Type 0 where
   pub standing : Standing s (q .location) (q .readings)
   pub date-fits : q .date ≤ maxDate
   pub last-fits : q .last ≤ maxDate
+  pub numbered-fits : q .numbered ≤ maxNumbered
 
 -- The parts of a box fit.
 pub record Sound (b : Monitor) : Type 0 where

@@ -1,21 +1,29 @@
 // The box's struct with its limits, and the numbers that follow from them.
 
-// A scheduled action with its date.
-pub struct Slot {
+// An offer with its number: its action, the number, and the date at which it was offered.
+pub struct Request {
     pub action: u8,
+    pub number: u32,
+    pub offered: u32,
+}
+
+// A scheduled request with its date.
+pub struct Slot {
+    pub request: Request,
     pub date: u32,
 }
 
-// What calls change of a box: its date, the pending actions, the schedule, the location, readings and date reached by the last event ever scheduled, and whether the lamp is lit.
+// What calls change of a box: its date, the pending requests, the schedule, the location, readings and date reached by the last event ever scheduled, how many offers are numbered, and whether the lamp is lit.
 pub struct State {
     pub date: u32,
-    pub pending: [u8; Monitor::COUNT],
+    pub pending: [Request; Monitor::COUNT],
     pub held: usize,
     pub schedule: [Slot; Monitor::SCHEDULED],
     pub planned: usize,
     pub location: u8,
     pub readings: [u8; 2],
     pub last: u32,
+    pub numbered: u32,
     pub lit: bool,
 }
 
@@ -38,6 +46,8 @@ impl Monitor {
     pub const TRANSITIONS: usize = 64;
     // The last date.
     pub const LATEST: u32 = 1_000_000_000;
+    // The most offers that get a number.
+    pub const NUMBERED: u32 = 1_000_000;
 
     // The bytes of the largest automaton.
     pub const SIZE: usize = 6 + 4 * Monitor::COUNT + 7 * Monitor::TRANSITIONS;

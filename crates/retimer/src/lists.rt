@@ -1,49 +1,56 @@
 // Lists that are kept at the front of arrays.
 use crate::limits::Monitor;
+use crate::limits::Request;
 use crate::limits::Slot;
 ghost use mathlib.Core.Path.{_≡_};
 ghost use mathlib.Core.List.{_∷_, [], _++_, map};
 ghost use Prim.Native.Nat.{_+_, _-_, _≤_, _<_};
 ghost use lib.ListN.{length, take, drop};
 ghost use Rattle.enforcement.specs.Limits.{maxSize, maxCount, maxScheduled};
-ghost use Rattle.enforcement.specs.History.{place};
+ghost use Rattle.enforcement.specs.History.{actionsOf, place};
 ghost use Rattle.retimer.specs.View.{requestOf, slotOf};
 
-// The first n of the pending actions, and c.
-pub fn with_action(pending: [u8; Monitor::COUNT], n: usize, c: u8) -> [u8; Monitor::BATCH]
+// The actions of the first n requests.
+pub fn actions(requests: [Request; Monitor::COUNT], n: usize) -> [u8; Monitor::BATCH]
     requires { ⌜ n ≤ maxCount ⌝ }
-    ensures { λ r. ⌜ take (n + 1) r ≡ take n pending ++ (c ∷ []) ⌝ }
+    ensures { λ r. ⌜ take n r ≡ actionsOf (map requestOf (take n requests)) ⌝ }
 {
     let mut r = [0u8; Monitor::BATCH];
     let mut i: usize = 0;
     while i < n {
-        r[i] = pending[i];
+        let e = requests[i];
+        r[i] = e.action;
         i += 1;
     }
-    r[n] = c;
     r
 }
 
-// The first n slots, and then k actions at their dates.
+// The first n slots, and then the first k requests and one more at their dates.
 pub fn with_slots(
     slots: [Slot; Monitor::SCHEDULED],
     n: usize,
-    cs: [u8; Monitor::BATCH],
-    ds: [u32; Monitor::BATCH],
+    requests: [Request; Monitor::COUNT],
     k: usize,
+    last: Request,
+    ds: [u32; Monitor::BATCH],
 ) -> [Slot; Monitor::SCHEDULED]
-    requires { ⌜ (n + k ≤ maxScheduled) × (k ≤ maxCount + 1) ⌝ }
-    ensures { λ r. ⌜ (map slotOf (take (n + k) r) ≡ map slotOf (take n slots) ++ place (map requestOf (take k cs)) (take k ds)) × (length r ≡ maxScheduled) ⌝ }
+    requires { ⌜ (n + (k + 1) ≤ maxScheduled) × (k ≤ maxCount) ⌝ }
+    ensures { λ r. ⌜ (map slotOf (take (n + (k + 1)) r) ≡ map slotOf (take n slots) ++ place (map requestOf (take k requests) ++ (requestOf last ∷ [])) (take (k + 1) ds)) × (length r ≡ maxScheduled) ⌝ }
 {
     let mut r = slots;
     let mut i: usize = 0;
     while i < k {
+        let e = requests[i];
         r[n + i] = Slot {
-            action: cs[i],
+            request: e,
             date: ds[i],
         };
         i += 1;
     }
+    r[n + k] = Slot {
+        request: last,
+        date: ds[k],
+    };
     r
 }
 

@@ -1,6 +1,5 @@
 // The box and its calls.
 use crate::limits::Monitor;
-use crate::limits::Slot;
 use crate::limits::State;
 use crate::lists;
 use crate::liveness;
@@ -43,17 +42,7 @@ impl Monitor {
             bytes,
             size: s.len(),
             live: counts,
-            state: State {
-                date: 0,
-                pending: [0u8; Monitor::COUNT],
-                held: 0,
-                schedule: [Slot { action: 0, date: 0 }; Monitor::SCHEDULED],
-                planned: 0,
-                location,
-                readings: [0, second],
-                last: 0,
-                lit,
-            },
+            state: State::initial(location, [0, second], lit),
         }
     }
 
@@ -65,17 +54,7 @@ impl Monitor {
             bytes: [0u8; Monitor::SIZE],
             size: 0,
             live: [0u8; Monitor::COUNTS],
-            state: State {
-                date: 0,
-                pending: [0u8; Monitor::COUNT],
-                held: 0,
-                schedule: [Slot { action: 0, date: 0 }; Monitor::SCHEDULED],
-                planned: 0,
-                location: 0,
-                readings: [0, 0],
-                last: 0,
-                lit: false,
-            },
+            state: State::initial(0, [0, 0], false),
         }
     }
 

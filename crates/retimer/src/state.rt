@@ -2,6 +2,8 @@
 use crate::clocks;
 use crate::lamp;
 use crate::limits::Monitor;
+use crate::limits::Request;
+use crate::limits::Slot;
 use crate::limits::State;
 use crate::lists;
 use crate::optimum;
@@ -11,22 +13,30 @@ use crate::reach;
 use crate::reason::Reason;
 ghost use mathlib.Core.Path.{_≡_};
 ghost use mathlib.Core.Bool.{false};
-ghost use Prim.Native.Nat.{_+_, _-_, _≤_, max};
+ghost use Prim.Native.Nat.{_+_, _-_, _≤_, _<_, max};
 ghost use lib.Dec.{leb};
 ghost use lib.ListN.{length};
-ghost use Rattle.enforcement.specs.Limits.{maxCount, maxScheduled, maxDate};
+ghost use Rattle.enforcement.specs.Limits.{maxCount, maxScheduled, maxDate, maxNumbered};
 ghost use Rattle.enforcement.specs.History.{actionsOf, offer, collect};
 ghost use Rattle.enforcement.specs.Monitor.{joins, kept, oldest};
 ghost use Rattle.retimer.specs.Optimum.{modelOf};
 ghost use Rattle.retimer.specs.View.{view, StateSound, StateValid};
-ghost use Rattle.retimer.specs.Calls.{refusal, movedTo, lampWith, lampAt, Done, lastAction, decidedOf, CorrectAsked, PlaceAsked, placedOf, MoveRight};
+ghost use Rattle.retimer.specs.Calls.{initialState, refusal, dropping, lampWith, lampAt, Done, lastAction, decidedOf, CorrectAsked, PlaceAsked, placedOf, MoveRight};
 
 // What a call answers.
 pub enum Answer {
-    Scheduled { count: u8, last: u32 },
+    Scheduled {
+        count: u8,
+        last: u32,
+    },
     Held(u8),
     Dropped,
-    Played { action: u8, date: u32 },
+    Played {
+        action: u8,
+        date: u32,
+        number: u32,
+        offered: u32,
+    },
     Nothing,
     Lit,
     Dark,
@@ -49,7 +59,48 @@ fn earliest(last: u32, t: u32) -> u32
     t
 }
 
+// An offer with the next number.
+fn next_request(numbered: u32, action: u8, offered: u32) -> Request
+    requires { ⌜ numbered < maxNumbered ⌝ }
+    ensures { λ r. ⌜ r ≡ record { action = action; number = numbered + 1; offered = offered } ⌝ }
+{
+    Request {
+        action,
+        number: numbered + 1,
+        offered,
+    }
+}
+
 impl State {
+    // Date 0, with nothing pending, scheduled or numbered.
+    pub fn initial(location: u8, readings: [u8; 2], lit: bool) -> State
+        ensures { λ r. ⌜ r ≡ initialState location readings lit ⌝ }
+    {
+        State {
+            date: 0,
+            pending: [Request {
+                action: 0,
+                number: 0,
+                offered: 0,
+            }; Monitor::COUNT],
+            held: 0,
+            schedule: [Slot {
+                request: Request {
+                    action: 0,
+                    number: 0,
+                    offered: 0,
+                },
+                date: 0,
+            }; Monitor::SCHEDULED],
+            planned: 0,
+            location,
+            readings,
+            last: 0,
+            numbered: 0,
+            lit,
+        }
+    }
+
     // The state as it came, with the reason.
     fn refuse(self, reason: Reason) -> Moved
         ensures { λ r. ⌜ r ≡ refusal self reason ⌝ }
@@ -60,7 +111,7 @@ impl State {
         }
     }
 
-    // An action at a date. Where the lamp is lit, it stays lit, and every offer is dropped.
+    // An action at a date. Where the lamp is lit, it stays lit, and every offer that can be numbered is dropped.
     pub fn offer<'a>(self, s: &'a [u8], live: &'a [u8], c: u8, t: u32) -> Moved
         requires { ⌜ StateValid (now s) (now live) self ⌝ }
         ensures { λ r. ⌜ MoveRight (now (s .entry)) (now (live .entry)) self (offer c t) r ⌝ }
@@ -74,18 +125,18 @@ impl State {
         if t < self.date {
             return self.refuse(Reason::S1);
         }
+        if Monitor::NUMBERED <= self.numbered {
+            return self.refuse(Reason::S5);
+        }
         if self.lit {
-            return Moved {
-                state: self.at_date(t, true),
-                answer: Answer::Dropped,
-            };
+            return self.drop_at(t, true);
         }
         self.decide(s, live, c, t)
     }
 
     // An offer that passed the first checks.
     fn decide<'a>(self, s: &'a [u8], live: &'a [u8], c: u8, t: u32) -> Moved
-        requires { ⌜ (StateSound (now s) (now live) self) × (t ≤ maxDate) ⌝ }
+        requires { ⌜ (StateSound (now s) (now live) self) × ((t ≤ maxDate) × (self .numbered < maxNumbered)) ⌝ }
         ensures { λ r. ⌜ Done (now (s .entry)) (now (live .entry)) self (decidedOf (now (s .entry)) self c t) r ⌝ }
     {
         let held = self.held;
@@ -95,39 +146,44 @@ impl State {
         let pending = self.pending;
         let start = earliest(last, t);
         let here = clocks::wait_many(readings, start - last);
-        let cs = lists::with_action(pending, held, c);
+        let mut cs = lists::actions(pending, held);
+        cs[held] = c;
         let o = reach::outlook_of(s, live, &cs[..held + 1], location, here);
         match o {
             Outlook::Correct => self.correct(s, live, t, cs, start, here),
             Outlook::Extensible => self.hold(s, live, c, t),
-            Outlook::Dead { lit } => Moved {
-                state: self.at_date(t, lit),
-                answer: Answer::Dropped,
-            },
+            Outlook::Dead { lit } => self.drop_at(t, lit),
         }
     }
 
-    // Only the date and the lamp move.
-    fn at_date(mut self, date: u32, lit: bool) -> State
-        ensures { λ r. ⌜ r ≡ movedTo self date lit ⌝ }
+    // Case 3: only the date and the lamp move, and the offer has its number.
+    fn drop_at(mut self, t: u32, lit: bool) -> Moved
+        requires { ⌜ self .numbered < maxNumbered ⌝ }
+        ensures { λ r. ⌜ r ≡ dropping self t lit ⌝ }
     {
-        self.date = date;
+        self.date = t;
+        self.numbered += 1;
         self.lit = lit;
-        self
+        Moved {
+            state: self,
+            answer: Answer::Dropped,
+        }
     }
 
     // Case 2: one more action is pending, where there is room. What is held can still come to acceptance, so the lamp is dark.
     fn hold<'a>(mut self, s: &'a [u8], live: &'a [u8], c: u8, t: u32) -> Moved
-        requires { ⌜ ((StateSound (now s) (now live) self) × (t ≤ maxDate)) × (lampWith (now s) self t (actionsOf (joins (view self) c)) ≡ false) ⌝ }
+        requires { ⌜ ((StateSound (now s) (now live) self) × ((t ≤ maxDate) × (self .numbered < maxNumbered))) × (lampWith (now s) self t (actionsOf (joins (view self) c t)) ≡ false) ⌝ }
         ensures { λ r. ⌜ Done (now (s .entry)) (now (live .entry)) self (kept (modelOf (now (s .entry))) (view self) c t (leb maxCount (length (view self .pending)))) r ⌝ }
     {
         let n = self.held;
         if Monitor::COUNT <= n {
             return self.refuse(Reason::S4);
         }
-        self.pending[n] = c;
+        let next = next_request(self.numbered, c, t);
+        self.pending[n] = next;
         self.held = n + 1;
         self.date = t;
+        self.numbered = next.number;
         self.lit = false;
         Moved {
             state: self,
@@ -229,22 +285,25 @@ impl State {
         ensures { λ r. ⌜ Done (now (s .entry)) (now (live .entry)) self (placedOf (now (s .entry)) self t cs ds last) r ⌝ }
     {
         let n = self.planned;
-        let k = self.held + 1;
+        let held = self.held;
+        let pending = self.pending;
         let slots = self.schedule;
-        let more = lists::with_slots(slots, n, cs, ds, k);
+        let next = next_request(self.numbered, cs[held], t);
+        let more = lists::with_slots(slots, n, pending, held, next, ds);
         let lit = outlook::none_next(s, live, location, readings);
         self.schedule = more;
-        self.planned = n + k;
+        self.planned = n + (held + 1);
         self.held = 0;
         self.date = t;
         self.location = location;
         self.readings = readings;
         self.last = last;
+        self.numbered = next.number;
         self.lit = lit;
         Moved {
             state: self,
             answer: Answer::Scheduled {
-                count: k as u8,
+                count: (held + 1) as u8,
                 last,
             },
         }
@@ -283,7 +342,7 @@ impl State {
         let readings = self.readings;
         let here = clocks::wait_many(readings, start - last);
         let pending = self.pending;
-        let cs: &[u8] = &pending;
+        let cs = lists::actions(pending, held);
         lamp::is_lit(s, live, &cs[..held], location, here)
     }
 
@@ -311,13 +370,16 @@ impl State {
             };
         }
         let rest = lists::without_first(slots, n);
+        let request = first.request;
         self.schedule = rest;
         self.planned = n - 1;
         Moved {
             state: self,
             answer: Answer::Played {
-                action: first.action,
+                action: request.action,
                 date: first.date,
+                number: request.number,
+                offered: request.offered,
             },
         }
     }

@@ -56,7 +56,7 @@ impl Script {
 
     /// What would be decided of an action with those that are pending.
     pub fn outlook(&self, action: u8, date: u32) -> Decision {
-        let mut list = self.monitor.pending().to_vec();
+        let mut list = self.monitor.pending_actions();
         list.push(action);
         let (automaton, reached) = (self.monitor.automaton(), self.monitor.reached());
         decide(automaton, reached, &list, date)
@@ -68,7 +68,7 @@ impl Script {
         can_continue(
             monitor.automaton(),
             monitor.reached(),
-            monitor.pending(),
+            &monitor.pending_actions(),
             date,
         )
     }

@@ -1,7 +1,8 @@
-//! Compares a desk program with the reference over random inputs.
+//! Compares a desk program with the reference over random inputs, and over some
+//! that use up the numbers.
 
 use host::compare::{compare, Stop};
-use host::generate::{kind_named, Kind, KINDS};
+use host::generate::{kind_named, Kind, KINDS, ONCE};
 use std::ffi::OsString;
 use std::path::Path;
 use std::process::ExitCode;
@@ -31,6 +32,10 @@ fn main() -> ExitCode {
             println!("{difference}");
             ExitCode::FAILURE
         }
+        Err(Stop::Pointless { kind, missing }) => {
+            println!("the input of kind {kind} has lost its point: {missing}");
+            ExitCode::FAILURE
+        }
         Err(Stop::NotRun(error)) => {
             let program = task.program.to_string_lossy();
             eprintln!("compare: {program:?} cannot be run: {error}\n{USAGE}");
@@ -52,6 +57,7 @@ fn parse(arguments: &[OsString]) -> Option<Task<'_>> {
     let mut kinds: Vec<&Kind> = named.collect::<Option<_>>()?;
     if kinds.is_empty() {
         kinds.extend(KINDS);
+        kinds.extend(ONCE);
     }
     Some(Task {
         program: Path::new(program),

@@ -1,6 +1,6 @@
-//! Writes one random desk input to standard output.
+//! Writes one desk input of a kind to standard output.
 
-use host::generate::{kind_named, KINDS};
+use host::generate::{kind_named, KINDS, ONCE};
 use std::io::{self, Write};
 use std::process::ExitCode;
 
@@ -26,7 +26,8 @@ fn main() -> ExitCode {
 }
 
 fn list_of_kinds() -> Vec<u8> {
-    let names = KINDS.iter().map(|kind| format!("{}\n", kind.name));
+    let kinds = KINDS.iter().chain(ONCE);
+    let names = kinds.map(|kind| format!("{}\n", kind.name));
     names.collect::<String>().into_bytes()
 }
 

@@ -6,11 +6,32 @@ use super::liveness::Deadlines;
 use super::reach::{any_next, is_lit, outlook, Outlook};
 use super::sheet::{waited, Configuration, Sheet};
 use crate::desk::Calls;
-use crate::limits::{LAST_DATE, MAX_PENDING, MAX_SCHEDULED};
-use crate::monitor::Answer;
+use crate::limits::{LAST_DATE, MAX_NUMBERED, MAX_PENDING, MAX_SCHEDULED};
+use crate::monitor::{Answer, ScheduledAction};
 use crate::refusal::Refusal;
-use crate::runs::TimedAction;
 use crate::sheet::Automaton;
+
+/// The number and the date of an offer.
+#[derive(Clone, Copy, Debug)]
+struct Ticket {
+    number: u32,
+    offered: u32,
+}
+
+impl Ticket {
+    const NONE: Ticket = Ticket {
+        number: 0,
+        offered: 0,
+    };
+}
+
+/// A place of the schedule that is free.
+const FREE: ScheduledAction = ScheduledAction {
+    action: 0,
+    date: 0,
+    number: 0,
+    offered: 0,
+};
 
 /// The box.
 #[derive(Clone, Debug)]
@@ -19,8 +40,12 @@ pub struct Monitor {
     deadlines: Deadlines,
     date: u32,
     pending: [u8; MAX_PENDING],
+    /// One for each pending action, and a place for that of the next offer.
+    tickets: [Ticket; BATCH],
     held: usize,
-    schedule: [TimedAction; MAX_SCHEDULED],
+    /// The number of the next offer that is not refused.
+    next: u32,
+    schedule: [ScheduledAction; MAX_SCHEDULED],
     planned: usize,
     /// Where the last action ever scheduled led, and its date.
     reached: Configuration,
@@ -68,25 +93,38 @@ impl Monitor {
             return Err(Refusal::I7);
         }
         self.check_date(date)?;
-        if self.lit {
-            self.date = date;
-            return Ok(Answer::Dropped);
+        if self.next > MAX_NUMBERED {
+            return Err(Refusal::S5);
         }
+        let answer = if self.lit {
+            Answer::Dropped
+        } else {
+            self.decide(action, date)?
+        };
+        self.next += 1;
+        self.date = date;
+        Ok(answer)
+    }
+
+    /// What becomes of an offer while the lamp is dark.
+    fn decide(&mut self, action: u8, date: u32) -> Result<Answer, Refusal> {
+        self.tickets[self.held] = Ticket {
+            number: self.next,
+            offered: date,
+        };
         let mut list = [0; BATCH];
         list[..self.held].copy_from_slice(&self.pending[..self.held]);
         list[self.held] = action;
         let list = &list[..=self.held];
         let (start, from) = self.start(date);
-        let answer = match outlook(&self.sheet, &self.deadlines, list, from) {
-            Outlook::Correct => self.schedule_all(list, start, from)?,
-            Outlook::Extensible => self.hold(action)?,
+        match outlook(&self.sheet, &self.deadlines, list, from) {
+            Outlook::Correct => self.schedule_all(list, start, from),
+            Outlook::Extensible => self.hold(action),
             Outlook::Dead { lit } => {
                 self.lit = lit;
-                Answer::Dropped
+                Ok(Answer::Dropped)
             }
-        };
-        self.date = date;
-        Ok(answer)
+        }
     }
 
     /// Adds the first correction to the schedule and empties the pending list.
@@ -109,15 +147,7 @@ impl Monitor {
         if !room {
             return Err(Refusal::S3);
         }
-        let free = &mut self.schedule[self.planned..];
-        for (place, (action, date)) in free.iter_mut().zip(list.iter().zip(found.dates)) {
-            *place = TimedAction {
-                action: *action,
-                date,
-            };
-        }
-        self.planned += list.len();
-        self.held = 0;
+        self.place_all(list, &found.dates);
         self.reached = found.reached;
         self.last = found.last;
         self.lit = !any_next(&self.sheet, &self.deadlines, self.reached);
@@ -127,7 +157,24 @@ impl Monitor {
         })
     }
 
-    /// Adds an action to the pending list.
+    /// Moves the pending list and the offer to free places of the schedule.
+    #[inline]
+    fn place_all(&mut self, list: &[u8], dates: &[u32; BATCH]) {
+        let free = self.schedule[self.planned..].iter_mut();
+        let dated = list.iter().zip(dates).zip(&self.tickets);
+        for (place, ((action, date), ticket)) in free.zip(dated) {
+            *place = ScheduledAction {
+                action: *action,
+                date: *date,
+                number: ticket.number,
+                offered: ticket.offered,
+            };
+        }
+        self.planned += list.len();
+        self.held = 0;
+    }
+
+    /// Adds an action to the pending list; its ticket is there.
     fn hold(&mut self, action: u8) -> Result<Answer, Refusal> {
         if self.held == MAX_PENDING {
             return Err(Refusal::S4);
@@ -152,8 +199,10 @@ impl Calls for Monitor {
             deadlines,
             date: 0,
             pending: [0; MAX_PENDING],
+            tickets: [Ticket::NONE; BATCH],
             held: 0,
-            schedule: [TimedAction { action: 0, date: 0 }; MAX_SCHEDULED],
+            next: 1,
+            schedule: [FREE; MAX_SCHEDULED],
             planned: 0,
             reached,
             last: 0,

@@ -5,6 +5,7 @@ use super::calls::{push_call, push_random_calls, Pace, Plan, Script};
 use super::damage::{at_an_edge, damaged};
 use super::dated::dated_lists;
 use super::draft::{draw, Bounds, Draft, Goal, Profile};
+use super::used_up::{used_up, used_up_lit, used_up_played};
 use super::with_length;
 use crate::course::{A, B, C, D, E};
 use crate::limits::{LAST_DATE, MAX_PENDING};
@@ -12,14 +13,21 @@ use crate::monitor::Answer;
 use crate::random::Random;
 use crate::refusal::Refusal;
 use crate::sheet::UNBOUNDED;
+use crate::used_up::{of_a_last_list, of_a_lit_box, of_all_fates};
 
 /// A kind of desk inputs.
 pub struct Kind {
     pub name: &'static str,
     pub(super) make: fn(&mut Random) -> Vec<u8>,
+    /// Where every seed gives the same input, what tells whether its lines show
+    /// what it is there for.
+    pub look: Option<Look>,
 }
 
-/// All kinds.
+/// Looks at an input and its lines; tells what is missing.
+pub type Look = fn(&[u8], &str) -> Result<(), String>;
+
+/// All kinds of random inputs.
 pub const KINDS: &[Kind] = &[
     kind("one_clock", one_clock),
     kind("two_clocks", two_clocks),
@@ -41,13 +49,27 @@ pub const KINDS: &[Kind] = &[
     kind("any_bytes", any_bytes),
 ];
 
+/// The kinds of which one input is enough. These use up the numbers.
+pub const ONCE: &[Kind] = &[
+    once("used_up", used_up, of_all_fates),
+    once("used_up_played", used_up_played, of_a_last_list),
+    once("used_up_lit", used_up_lit, of_a_lit_box),
+];
+
 const fn kind(name: &'static str, make: fn(&mut Random) -> Vec<u8>) -> Kind {
-    Kind { name, make }
+    let look = None;
+    Kind { name, make, look }
+}
+
+const fn once(name: &'static str, make: fn(&mut Random) -> Vec<u8>, look: Look) -> Kind {
+    let look = Some(look);
+    Kind { name, make, look }
 }
 
 /// The kind of a name.
 pub fn kind_named(name: &str) -> Option<&'static Kind> {
-    KINDS.iter().find(|kind| kind.name == name)
+    let mut kinds = KINDS.iter().chain(ONCE);
+    kinds.find(|kind| kind.name == name)
 }
 
 pub(super) const SMALL: Bounds = Bounds { low: 1, high: 5 };

@@ -1,4 +1,4 @@
-//! Random desk inputs: named kinds, each deterministic from a seed.
+//! Desk inputs: named kinds, most of them random, each deterministic from a seed.
 
 mod blocks;
 mod calls;
@@ -6,10 +6,11 @@ mod damage;
 mod dated;
 mod draft;
 mod kinds;
+mod used_up;
 
 pub use blocks::BLOCK;
 pub use draft::{draw, Bounds, Draft, Goal, Profile};
-pub use kinds::{kind_named, Kind, KINDS};
+pub use kinds::{kind_named, Kind, KINDS, ONCE};
 
 use crate::random::Random;
 
@@ -17,6 +18,16 @@ impl Kind {
     /// The input of this kind for a seed.
     pub fn input(&self, seed: u64) -> Vec<u8> {
         (self.make)(&mut self.random(seed))
+    }
+
+    /// The seeds to go through of so many from a first one on: only one where
+    /// every seed gives the same input.
+    pub fn seeds(&self, first: u64, count: u64) -> impl Iterator<Item = u64> {
+        let (first, count) = match self.look {
+            Some(_) => (0, count.min(1)),
+            None => (first, count),
+        };
+        (0..count).map(move |step| first.wrapping_add(step))
     }
 
     /// Random numbers for this kind and a seed.

@@ -2,8 +2,9 @@
 #![allow(dead_code)]
 
 use host::desk;
-use host::monitor::{Answer, Monitor};
+use host::monitor::{Answer, Monitor, ScheduledAction};
 use host::refusal::Refusal;
+use host::runs::TimedAction;
 use host::sheet;
 
 /// The first byte of a collection.
@@ -19,6 +20,16 @@ pub fn scheduled(count: usize, last: u32) -> Answer {
     Answer::Scheduled { count, last }
 }
 
+/// The answer that plays an action, with the number and date of its offer.
+pub fn played(action: u8, date: u32, number: u32, offered: u32) -> Answer {
+    Answer::Played(ScheduledAction {
+        action,
+        date,
+        number,
+        offered,
+    })
+}
+
 /// The answer that refuses.
 pub fn refused(refusal: Refusal) -> Answer {
     Answer::Refused(refusal)
@@ -27,6 +38,25 @@ pub fn refused(refusal: Refusal) -> Answer {
 /// The dates of all that was ever scheduled.
 pub fn dates(monitor: &Monitor) -> Vec<u32> {
     monitor.history().iter().map(|timed| timed.date).collect()
+}
+
+/// Everything ever scheduled, as a run.
+pub fn run_of(monitor: &Monitor) -> Vec<TimedAction> {
+    let history = monitor.history().iter();
+    history.map(ScheduledAction::timed).collect()
+}
+
+/// The answer of a line with the call's number cut off, and with the number and
+/// date of the offer too. These would tell apart what is else the same.
+pub fn bare_answer(line: &str) -> Option<String> {
+    let (_, answer) = line.split_once(' ')?;
+    let words: Vec<&str> = answer.split(' ').collect();
+    Some(match words.as_slice() {
+        ["played", action, date, _, _, lamp @ ..] => {
+            format!("played {action} {date} {}", lamp.join(" "))
+        }
+        _ => answer.into(),
+    })
 }
 
 /// Where the first call starts in a desk input.

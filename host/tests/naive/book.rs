@@ -2,9 +2,8 @@
 //! bytes, keeps everything ever scheduled, and tries every dating up to a
 //! bound with exact readings.
 
-use host::monitor::Answer;
+use host::monitor::{Answer, ScheduledAction};
 use host::refusal::Refusal;
-use host::runs::TimedAction;
 use std::collections::HashSet;
 
 /// Where a run stands: the location and the date at which each clock was 0.
@@ -21,8 +20,13 @@ pub struct Book {
     /// How many ticks per command a dating may wait at most.
     wait: u32,
     date: u32,
+    /// Each command with its date.
     pub scheduled: Vec<(u8, u32)>,
     pub held: Vec<u8>,
+    /// Number and date of the offers of what was scheduled and then of what is
+    /// held, in that order.
+    pub offers: Vec<(u32, u32)>,
+    numbered: u32,
     played: usize,
 }
 
@@ -34,6 +38,8 @@ impl Book {
             date: 0,
             scheduled: Vec::new(),
             held: Vec::new(),
+            offers: Vec::new(),
+            numbered: 0,
             played: 0,
         }
     }
@@ -178,6 +184,9 @@ impl Book {
         if let Some(refusal) = self.date_refusal(t) {
             return Answer::Refused(refusal);
         }
+        if self.numbered >= 1_000_000 {
+            return Answer::Refused(Refusal::S5);
+        }
         let mut list = self.held.clone();
         list.push(command);
         let answer = if let Some(dating) = self.correction(&list, t) {
@@ -189,6 +198,10 @@ impl Book {
         };
         if !matches!(answer, Answer::Refused(_)) {
             self.date = t;
+            self.numbered += 1;
+        }
+        if matches!(answer, Answer::Scheduled { .. } | Answer::Held(_)) {
+            self.offers.push((self.numbered, t));
         }
         answer
     }
@@ -235,8 +248,14 @@ impl Book {
         let oldest = self.scheduled.get(self.played).copied();
         match oldest {
             Some((action, date)) if date <= t => {
+                let (number, offered) = self.offers[self.played];
                 self.played += 1;
-                Answer::Played(TimedAction { action, date })
+                Answer::Played(ScheduledAction {
+                    action,
+                    date,
+                    number,
+                    offered,
+                })
             }
             _ => Answer::Nothing,
         }

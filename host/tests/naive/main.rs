@@ -33,6 +33,9 @@ struct Seen {
     waits: u32,
     held: u32,
     dropped: u32,
+    played: u32,
+    /// Played, offered before their date.
+    played_later: u32,
     lit: u32,
     dark: u32,
     lit_while_held: u32,
@@ -94,18 +97,32 @@ fn call(
         (monitor.offer(action, date), book.offer(action, date))
     };
     assert_eq!(answer, expected);
-    assert_eq!(monitor.pending(), book.held);
+    assert_eq!(monitor.pending_actions(), book.held);
     let history = monitor.history().iter();
     let history: Vec<(u8, u32)> = history.map(|timed| (timed.action, timed.date)).collect();
     assert_eq!(history, book.scheduled);
+    assert_eq!(offers(monitor), book.offers);
     let lit = monitor.lamp();
     assert_eq!(lit, book.lit());
     count(seen, answer, lit, !book.held.is_empty(), date);
     true
 }
 
+/// Number and date of the offers of all that was scheduled or is held.
+fn offers(monitor: &Monitor) -> Vec<(u32, u32)> {
+    let scheduled = monitor.history().iter();
+    let scheduled = scheduled.map(|timed| (timed.number, timed.offered));
+    let held = monitor.pending().iter();
+    let held = held.map(|held| (held.number, held.offered));
+    scheduled.chain(held).collect()
+}
+
 fn count(seen: &mut Seen, answer: Answer, lit: bool, held: bool, date: u32) {
     match answer {
+        Answer::Played(played) => {
+            seen.played += 1;
+            seen.played_later += u32::from(played.offered < played.date);
+        }
         Answer::Scheduled { count, last } => {
             seen.scheduled += 1;
             seen.batches += u32::from(count > 1);
@@ -129,6 +146,8 @@ fn require(seen: &Seen, least: u32) {
         seen.waits,
         seen.held,
         seen.dropped,
+        seen.played,
+        seen.played_later,
         seen.lit,
         seen.dark,
         seen.lit_while_held,

@@ -29,6 +29,9 @@ byte-requires c κs = search needs
 date-requires : tie.Need-date-requires Inv-loop μ-loop
 date-requires c κs = search needs
 
+print-number-requires : tie.Need-print-number-requires Inv-loop μ-loop
+print-number-requires c κs = search needs
+
 add-i : tie.Need-add-i Inv-loop μ-loop
 add-i c = search needs
 
@@ -53,6 +56,7 @@ print-schedule-spec =
     array-copy-out-e
     byte-requires
     date-requires
+    print-number-requires
     add-i
     loop-less
     loop-again

@@ -40,11 +40,8 @@ put-requires c κs = search needs
 enum-known-a-3 : tie.Need-enum-known-a-3
 enum-known-a-3 c = search needs
 
-slice-aggregate-put-dated-2 : tie.Need-slice-aggregate-put-dated-2
-slice-aggregate-put-dated-2 c = search needs
-
-put-dated-requires-2 : tie.Need-put-dated-requires-2
-put-dated-requires-2 c κs = search needs
+put-played-requires : tie.Need-put-played-requires
+put-played-requires c κs = search needs
 
 enum-told-2 : tie.Need-enum-told-2
 enum-told-2 c = search needs
@@ -101,7 +98,7 @@ same-length-4 : tie.Need-same-length-4
 same-length-4 c = search needs
 
 returns-4 : tie.Need-returns-4
-returns-4 c = as-text (c .before .before .put-dated2 .ensures) (ap answerText (sym (c .before .before .before .before .before .before .a3 .given .1)))
+returns-4 c = as-text (c .before .before .put-played .ensures) (ap answerText (sym (c .before .before .before .before .before .a3 .given .1)))
 
 same-length-5 : tie.Need-same-length-5
 same-length-5 c = search needs
@@ -142,8 +139,7 @@ put-answer-spec =
     slice-aggregate-put
     put-requires
     enum-known-a-3
-    slice-aggregate-put-dated-2
-    put-dated-requires-2
+    put-played-requires
     enum-told-2
     slice-aggregate-put-2
     put-requires-2

@@ -44,6 +44,9 @@ enum-told-11 c = search needs
 enum-told-12 : tie.Need-enum-told-12
 enum-told-12 c = search needs
 
+enum-told-13 : tie.Need-enum-told-13
+enum-told-13 c = search needs
+
 returns : tie.Need-returns
 returns c = ap (λ (r : Reason). reasonText (reasonOf r)) (sym (c .before .before .enum-told .given .1))
 
@@ -80,6 +83,9 @@ returns-11 c = ap (λ (r : Reason). reasonText (reasonOf r)) (sym (c .before .be
 returns-12 : tie.Need-returns-12
 returns-12 c = ap (λ (r : Reason). reasonText (reasonOf r)) (sym (c .before .before .enum-told12 .given .1))
 
+returns-13 : tie.Need-returns-13
+returns-13 c = ap (λ (r : Reason). reasonText (reasonOf r)) (sym (c .before .before .enum-told13 .given .1))
+
 pub spelled-spec : {M : Type 1} → statement M
 spelled-spec =
     tie.close
@@ -96,6 +102,7 @@ spelled-spec =
     enum-told-10
     enum-told-11
     enum-told-12
+    enum-told-13
     returns
     returns-2
     returns-3
@@ -107,4 +114,5 @@ spelled-spec =
     returns-9
     returns-10
     returns-11
-    returns-12)
+    returns-12
+    returns-13)

@@ -6,6 +6,7 @@ use native.Mathlib.Omega.{arith}
 use lib.ListN.{length, take, drop, length-set}
 use borrow.Author.Needs.{needs}
 use Rattle.enforcement.specs.Limits.{maxScheduled}
+use Rattle.retimer.specs.Calls.{noSlot}
 use Rattle.retimer.proofs.Arrays.{moved-more, moved-rest, moved-whole}
 use Rattle.retimer.proofs.lists.without_first.Statement.{statement}
 use Rattle.retimer.proofs.lists.without_first.Tie as tie
@@ -48,7 +49,7 @@ loop-again c =
     let l = c .before .before .loop in
     let v = l .inv in
     let p = c .before .before .before .args .slots in
-    (simp length-set (v .0), (omega arith, (moved-more (record { action = 0; date = 0 }) p (l .r) (l .i) (omega arith) (omega (arith, c .before .before .before .pre)) (v .1 .1 .0) (v .1 .1 .1 .0), (moved-rest (record { action = 0; date = 0 }) p (l .r) (l .i) _ (v .1 .1 .1 .0), v .1 .1 .1 .1))))
+    (simp length-set (v .0), (omega arith, (moved-more noSlot p (l .r) (l .i) (omega arith) (omega (arith, c .before .before .before .pre)) (v .1 .1 .0) (v .1 .1 .1 .0), (moved-rest noSlot p (l .r) (l .i) _ (v .1 .1 .1 .0), v .1 .1 .1 .1))))
 
 returns : tie.Need-returns Inv-loop μ-loop
 returns c =

@@ -31,11 +31,19 @@ none-next-requires c κs =
     let a = c .before .before .before .before .before .before .before .before in
     fresh-asked (a .args .s .now) (c .before .before .if1 .second) (a .pre) (second-is (a .args .s .now) (c .before .before .if1 .second) (⊎-elim (λ w. inl (w .0 .taken, w .1)) (λ w. inr (w .0 .left, w .1)) (c .before .before .if1 .came))) (c .before .before .before .before .before .before .live-table .ensures)
 
+initial-requires : tie.Need-initial-requires
+initial-requires c κs = search needs
+
 returns : tie.Need-returns
 returns c =
-    let a = c .before .before .before .before .before .before .before .before .before in
-    fresh-right (a .args .s .now) (c .before .before .before .before .before .copied .result) (c .before .before .before .before .before .before .before .live-table .result .counts) _ _ (c .before .before .before .if1 .second) (c .none-next .result) (a .pre) (c .before .before .before .before .before .copied .ensures .0) (second-is (a .args .s .now) (c .before .before .before .if1 .second) (⊎-elim (λ w. inl (w .0 .taken, w .1)) (λ w. inr (w .0 .left, w .1)) (c .before .before .before .if1 .came))) (c .before .before .before .before .before .copied .ensures .1) (c .before .before .before .before .before .before .before .live-table .ensures) refl refl
-    (lit-empty (a .args .s .now) _ [] (c .none-next .result) refl (c .none-next .ensures))
+    let a = c .before .before .before .before .before .before .before .before .before .before in
+    let l = c .before .before .before .before .before .before .before .before .live-table in
+    let k = c .before .before .before .before .before .before .copied in
+    let i = c .before .before .before .before .if1 in
+    let n = c .before .none-next in
+    rw (c .initial .ensures)
+    (fresh-right (a .args .s .now) (k .result) (l .result .counts) (i .second) (n .result) (a .pre) (k .ensures .0) (second-is (a .args .s .now) (i .second) (⊎-elim (λ w. inl (w .0 .taken, w .1)) (λ w. inr (w .0 .left, w .1)) (i .came))) (k .ensures .1) (l .ensures)
+    (lit-empty (a .args .s .now) _ [] (n .result) refl (n .ensures)))
 
 pub fresh-spec : {M : Type 1} → statement M
 fresh-spec =
@@ -47,4 +55,5 @@ fresh-spec =
     shared-slice-read-location
     slice-aggregate-none-next
     none-next-requires
+    initial-requires
     returns)

@@ -1,10 +1,12 @@
 -- `State::decide` meets its contract: what is worked out is what the model decides by, and each case is the model's.
 -- Assumes nothing.
-use mathlib.Core.Path.{ap, sym}
+use mathlib.Core.Path.{ap, sym, _∙_}
+use mathlib.Core.List.{List}
 use Prim.Native.Nat.{ℕ, _+_}
 use native.Mathlib.Omega.{arith}
-use lib.ListN.{take}
-use lib.Seq.{length-take-le}
+use native.Mathlib.Numerals.{add-one}
+use lib.ListN.{take, set, length-set}
+use lib.Seq.{length-take-le, take-suc-set}
 use Rattle.enforcement.specs.Model.{Prospect, prospect}
 use Rattle.retimer.specs.Readings.{located}
 use Rattle.retimer.specs.Optimum.{modelOf}
@@ -16,19 +18,32 @@ use borrow.Author.Needs.{needs}
 use Rattle.retimer.proofs.limits.State.decide.Statement.{statement}
 use Rattle.retimer.proofs.limits.State.decide.Tie as tie
 
--- What is known before the outlook is asked for.
-worked : (w : tie.After-with-action) →
+-- The actions that the outlook is asked for.
+abbrev asked : tie.After-actions → List ℕ
+asked w = let a = w .before .before .before .before .before .before .before .args in set (w .actions .result) (a .self .held) (a .c)
+
+-- What is known before that.
+worked : (w : tie.After-actions) →
     let a = w .before .before .before .before .before .before .before in
-    Worked (a .args .s .now) (a .args .live .now) (a .args .self) (a .args .c) (a .args .t) (w .before .before .earliest .result) (w .before .wait-many .result) (w .with-action .result)
+    Worked (a .args .s .now) (a .args .live .now) (a .args .self) (a .args .c) (a .args .t) (w .before .before .earliest .result) (w .before .wait-many .result) (asked w)
 worked w =
     let a = w .before .before .before .before .before .before .before in
-    record { sound = a .pre .0; early = a .pre .1; start-is = w .before .before .earliest .ensures; here-is = w .before .wait-many .ensures .0; sized = omega (arith, w .with-action .ok); joined = w .with-action .ensures }
+    let l = w .actions in
+    record {
+      sound = a .pre .0;
+      early = a .pre .1 .0;
+      countable = a .pre .1 .1;
+      start-is = w .before .before .earliest .ensures;
+      here-is = w .before .wait-many .ensures .0;
+      sized = length-set (l .result) (a .args .self .held) (a .args .c) ∙ omega (arith, l .ok);
+      joined = rw (add-one, take-suc-set (l .result) (a .args .self .held) (a .args .c) (omega (arith, l .ok, a .pre .0 .held-fits)), l .ensures);
+    }
 
 -- The prospect that decides.
-abbrev sought : tie.After-with-action → Prospect
+abbrev sought : tie.After-actions → Prospect
 sought w =
-    let a = w .before .before .before .before .before .before .before in
-    prospect (modelOf (a .args .s .now)) (take (a .args .self .held + 1) (w .with-action .result)) (located (a .args .self .location) (w .before .wait-many .result))
+    let a = w .before .before .before .before .before .before .before .args in
+    prospect (modelOf (a .s .now)) (take (a .self .held + 1) (asked w)) (located (a .self .location) (w .before .wait-many .result))
 
 earliest-requires : tie.Need-earliest-requires
 earliest-requires c κs = search needs
@@ -39,27 +54,29 @@ sub-wait-many c = search needs
 wait-many-requires : tie.Need-wait-many-requires
 wait-many-requires c κs = search needs
 
-with-action-requires : tie.Need-with-action-requires
-with-action-requires c κs = search needs
+actions-requires : tie.Need-actions-requires
+actions-requires c κs = search needs
+
+array-write-cs : tie.Need-array-write-cs
+array-write-cs c = search needs
 
 add-cs : tie.Need-add-cs
 add-cs c = search needs
 
 array-share-prefix-cs : tie.Need-array-share-prefix-cs
-array-share-prefix-cs c = search needs
+array-share-prefix-cs c = let w = worked c in omega (arith, w .sized, w .sound .held-fits)
 
 slice-aggregate-outlook-of : tie.Need-slice-aggregate-outlook-of
 slice-aggregate-outlook-of c =
-    let w = c .before in
-    let a = c .before .before .before .before .before .before .before .before in
-    sym (length-take-le (a .args .self .held + 1) (w .with-action .result) (omega (arith, a .pre .0 .held-fits, w .with-action .ok)))
+    let w = worked (c .before) in
+    sym (length-take-le (c .before .before .before .before .before .before .before .before .args .self .held + 1) (asked (c .before)) (omega (arith, w .sized, w .sound .held-fits)))
 
 outlook-of-requires : tie.Need-outlook-of-requires
 outlook-of-requires c κs =
     let r = c .before .before .wait-many in
     let a = c .before .before .before .before .before .before .before .before in
-    let w = c .before in
-    (lamp-asked (a .args .self) _ (r .result) (a .pre .0) (r .ensures .0), omega (arith, length-take-le (a .args .self .held + 1) (w .with-action .result) (omega (arith, a .pre .0 .held-fits, w .with-action .ok))))
+    let w = worked (c .before) in
+    (lamp-asked (a .args .self) _ (r .result) (a .pre .0) (r .ensures .0), omega (arith, length-take-le (a .args .self .held + 1) (asked (c .before)) (omega (arith, w .sized, w .sound .held-fits))))
 
 enum-told : tie.Need-enum-told
 enum-told c = search needs
@@ -81,8 +98,8 @@ hold-requires c κs =
 enum-known-o : tie.Need-enum-known-o
 enum-known-o c = search needs
 
-at-date-requires : tie.Need-at-date-requires
-at-date-requires c κs = search needs
+drop-at-requires : tie.Need-drop-at-requires
+drop-at-requires c κs = c .before .before .before .before .before .before .before .before .before .before .before .before .pre .1 .1
 
 returns : tie.Need-returns
 returns c =
@@ -101,7 +118,7 @@ returns-3 c =
     let a = c .before .before .before .before .before .before .before .before .before .before .before .before .before in
     let e = c .before .before .o .given in
     let o = c .before .before .before .before .outlook-of .ensures in
-    rw (c .at-date .ensures) (dropped-done (a .args .self) (a .args .t) _ _ (a .pre .0) (a .pre .1) (drop-lamp (worked w) _ (dead-lamp (sought w) _ (e .1) o)) (drop-is (worked w) (dead-prospect (sought w) _ (e .1) o)))
+    rw (c .drop-at .ensures) (dropped-done (a .args .self) (a .args .t) _ _ (a .pre .0) (a .pre .1 .0) (a .pre .1 .1) (drop-lamp (worked w) _ (dead-lamp (sought w) _ (e .1) o)) (drop-is (worked w) (dead-prospect (sought w) _ (e .1) o)))
 
 pub decide-spec : {M : Type 1} → statement M
 decide-spec =
@@ -110,7 +127,8 @@ decide-spec =
     earliest-requires
     sub-wait-many
     wait-many-requires
-    with-action-requires
+    actions-requires
+    array-write-cs
     add-cs
     array-share-prefix-cs
     slice-aggregate-outlook-of
@@ -120,7 +138,7 @@ decide-spec =
     enum-told-2
     hold-requires
     enum-known-o
-    at-date-requires
+    drop-at-requires
     returns
     returns-2
     returns-3)

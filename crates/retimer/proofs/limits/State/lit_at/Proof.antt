@@ -1,9 +1,12 @@
 -- `State::lit_at` meets its contract: a lit lamp stays lit, a dark one is kept with the first possible date, and else the lamp is asked where the model asks it.
 -- Assumes nothing.
-use mathlib.Core.Path.{sym, _∙_}
+use mathlib.Core.Path.{ap, sym, _∙_}
 use native.Mathlib.Omega.{arith}
 use lib.Seq.{length-take-le}
 use borrow.Author.Needs.{needs}
+use Rattle.enforcement.specs.Monitor.{isLit}
+use Rattle.retimer.specs.Readings.{located}
+use Rattle.retimer.specs.Optimum.{modelOf}
 use Rattle.retimer.proofs.CallLaws.{lamp-later, lamp-same}
 use Rattle.retimer.proofs.Decisions.{lamp-asked, lamp-as}
 use Rattle.retimer.proofs.limits.State.lit_at.Statement.{statement}
@@ -31,13 +34,17 @@ sub-wait-many c = search needs
 wait-many-requires : tie.Need-wait-many-requires
 wait-many-requires c κs = search needs
 
-slice-aggregate-cs : tie.Need-slice-aggregate-cs
-slice-aggregate-cs c = search needs
+actions-requires : tie.Need-actions-requires
+actions-requires c κs = search needs
+
+array-share-prefix-cs : tie.Need-array-share-prefix-cs
+array-share-prefix-cs c = search needs
 
 slice-aggregate-is-lit : tie.Need-slice-aggregate-is-lit
 slice-aggregate-is-lit c =
     let a = c .before .before .before .before .before .before .before .before .before .before .before in
-    sym (length-take-le (a .args .self .held) (a .args .self .pending) (omega (arith, a .pre .0 .sound .pending-sized, a .pre .0 .sound .held-fits)))
+    let w = c .before .actions in
+    sym (length-take-le (a .args .self .held) (w .result) (omega (arith, a .pre .0 .sound .held-fits, w .ok)))
 
 is-lit-requires : tie.Need-is-lit-requires
 is-lit-requires c κs =
@@ -47,8 +54,9 @@ is-lit-requires c κs =
 
 returns-3 : tie.Need-returns-3
 returns-3 c =
-    let a = c .before .before .before .before .before .before .before .before .before .before .before .before in
-    lamp-as (a .args .s .now) (a .args .self) (a .args .t) _ _ _ (c .before .before .before .before .before .before .before .before .earliest .ensures) (c .before .before .before .before .wait-many .ensures .0) (c .is-lit .ensures)
+    let a = c .before .before .before .before .before .before .before .before .before .before .before .before .args in
+    let r = c .before .before .before .before .wait-many in
+    lamp-as (a .s .now) (a .self) (a .t) _ _ _ (c .before .before .before .before .before .before .before .before .earliest .ensures) (r .ensures .0) (c .is-lit .ensures ∙ ap (isLit (modelOf (a .s .now)) (located (a .self .location) (r .result))) (c .before .before .actions .ensures))
 
 pub lit-at-spec : {M : Type 1} → statement M
 lit-at-spec =
@@ -60,7 +68,8 @@ lit-at-spec =
     returns-2
     sub-wait-many
     wait-many-requires
-    slice-aggregate-cs
+    actions-requires
+    array-share-prefix-cs
     slice-aggregate-is-lit
     is-lit-requires
     returns-3)
