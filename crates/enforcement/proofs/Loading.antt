@@ -52,7 +52,7 @@ layout-finds s = both-finds (leb-finds (6 + 4 * locations s) (length s)) (both-f
 
 -- A reason by its number; 0 is no reason's.
 abbrev named : ℕ → Reason
-named n = getD (I-1 ∷ I-1 ∷ I-2 ∷ I-3 ∷ I-4 ∷ I-5 ∷ I-6 ∷ I-7 ∷ I-8 ∷ S-1 ∷ S-5 ∷ S-2 ∷ S-3 ∷ S-4 ∷ []) n I-1
+named n = getD (I-1 ∷ I-1 ∷ I-2 ∷ I-3 ∷ I-4 ∷ I-5 ∷ I-6 ∷ I-7 ∷ I-8 ∷ S-1 ∷ S-2 ∷ S-3 ∷ S-4 ∷ S-5 ∷ []) n I-1
 
 named-number : (r : Reason) → named (number r) ≡ r
 named-number I-1 = refl

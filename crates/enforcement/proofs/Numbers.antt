@@ -1,16 +1,15 @@
 -- What holds of the numbers of every history: what each call does to them, and so every list of calls.
 use mathlib.Core.Path.{_≡_, refl, ap, sym, _∙_, subst, subst⁻¹}
 use mathlib.Core.List.{List, [], _∷_, _++_, append-assoc, append-nil, map-append}
-use mathlib.Core.Option.{Option, some}
-use Prim.Native.Nat.{ℕ, zero, suc, _-_, _≤_, _<_}
+use Prim.Native.Nat.{ℕ, suc, _≤_, _<_}
 use native.Mathlib.Omega.{arith}
 use native.Mathlib.Nat.{le-refl}
-use lib.ListN.{length, getElem?, length-append}
+use lib.ListN.{length, length-append}
 use Rattle.enforcement.specs.Limits.{maxNumbered}
 use Rattle.enforcement.specs.Automaton.{Automaton}
 use Rattle.enforcement.specs.TimedWord.{Event, Monotone}
-use Rattle.enforcement.specs.History.{Request, Slot, place, History, fresh, numberedNext, joined, afterSchedule, afterHold, afterDate, afterDrop, afterPlay}
-use Rattle.enforcement.specs.Numbers.{requestsIn, requestsOf, numbersOf, offeredOf, Rising, AtMost, NoneEarly, Named, Numbers}
+use Rattle.enforcement.specs.History.{Request, Slot, place, History, fresh, Call, Outcome, numberedNext, joined, afterSchedule, afterHold, afterDate, afterDrop, afterPlay, Answers, unknown, late, past, no-number, too-late, no-place, full, late-collect, past-collect, too-early, empty, is-dark, is-lit, HistoryOf, call}
+use Rattle.enforcement.specs.Numbers.{requestsIn, requestsOf, numbersOf, offeredOf, Rising, AtMost, NoneEarly, keptFrom, Numbers}
 use Rattle.enforcement.proofs.Slots.{actions-length, request-place}
 use Rattle.enforcement.proofs.Runs.{monotone-from}
 use Rattle.enforcement.proofs.Constraints.{one, Effect, kept}
@@ -37,27 +36,6 @@ at-most-rest : (n : ℕ) (is js : List ℕ) → AtMost n (is ++ js) → AtMost n
 at-most-rest n [] js b = b
 at-most-rest n (i ∷ is) js b = at-most-rest n is js (b .1)
 
--- What stands in a list stands there when more is added, and what is added comes right after it.
-element-stays : (w : List Event) (i : ℕ) (e f : Event) → getElem? w i ≡ some e → getElem? (w ++ one f) i ≡ some e
-element-stays [] i e f h = let z : _≡_ {A = ℕ} 0 1 = cc in absurd (omega arith)
-element-stays (g ∷ w) zero e f h = h
-element-stays (g ∷ w) (suc i) e f h = element-stays w i e f h
-
-element-added : (w : List Event) (f : Event) → getElem? (w ++ one f) (length w) ≡ some f
-element-added [] f = refl
-element-added (g ∷ w) f = element-added w f
-
-named-omits : (w : List Event) (e : Event) (rs : List Request) → Named w rs → Named (w ++ one e) rs
-named-omits w e [] x = tt
-named-omits w e (r ∷ rs) x = (element-stays w (r .number - 1) (record { action = r .action; date = r .offered }) e (x .0), named-omits w e rs (x .1))
-
-named-more : (w : List Event) (rs : List Request) (r : Request) → r .number ≡ suc (length w) → Named w rs → Named (w ++ one (record { action = r .action; date = r .offered })) (rs ++ one r)
-named-more w [] r h x =
-    let z : r .number - 1 ≡ length w = omega arith in
-    (ap (getElem? (w ++ one (record { action = r .action; date = r .offered }))) z ∙ element-added w (record { action = r .action; date = r .offered }), tt)
-named-more w (q ∷ rs) r h x =
-    (element-stays w (q .number - 1) (record { action = q .action; date = q .offered }) (record { action = r .action; date = r .offered }) (x .0), named-more w rs r h (x .1))
-
 -- ---- Requests that get their dates
 
 early-append : (u v : List Slot) → NoneEarly u → NoneEarly v → NoneEarly (u ++ v)
@@ -77,6 +55,14 @@ requests-scheduled h c t ds e =
     append-nil _ ∙ map-append (λ (s : Slot). s .request) (h .scheduled) (place (joined h c t) ds) ∙ ap (λ (rs : List Request). q ++ rs) (request-place (joined h c t) ds e)
     ∙ sym (append-assoc q (h .pending) (one (numberedNext h c t)))
 
+-- So they are after it is held.
+requests-held : (h : History) (c t : ℕ) → requestsOf h ++ one (numberedNext h c t) ≡ requestsOf (afterHold h c t)
+requests-held h c t = append-assoc (requestsIn (h .scheduled)) (h .pending) (one (numberedNext h c t))
+
+-- A list goes on with one more.
+joins-end : (rs : List Request) (r : Request) (qs : List Request) → rs ++ (r ∷ qs) ≡ (rs ++ one r) ++ qs
+joins-end rs r qs = sym (append-assoc rs (one r) qs)
+
 -- ---- What every call keeps
 
 record Kept (a : Automaton) (h : History) (w : List Event) : Type 0 where
@@ -84,7 +70,6 @@ record Kept (a : Automaton) (h : History) (w : List Event) : Type 0 where
   counted : AtMost (h .numbered) (numbersOf (requestsOf h))
   count-is : h .numbered ≡ length w
   count-fits : h .numbered ≤ maxNumbered
-  named : Named w (requestsOf h)
   none-early : NoneEarly (h .scheduled)
   offered-rise : Monotone (a .loaded) (offeredOf (requestsOf h))
   offered-past : AtMost (h .date) (offeredOf (requestsOf h))
@@ -97,7 +82,6 @@ kept-later {a} {h} t n l x = record {
   counted = x .counted;
   count-is = x .count-is;
   count-fits = x .count-fits;
-  named = x .named;
   none-early = x .none-early;
   offered-rise = x .offered-rise;
   offered-past = at-most-later (h .date) t (offeredOf (requestsOf h)) l (x .offered-past);
@@ -108,21 +92,20 @@ module _ {a : Automaton} {h : History} {w : List Event} (c t : ℕ) (l : h .date
   abbrev event : Event
   event = record { action = c; date = t }
 
-  -- Its offer is dropped.
+  -- The offer of c at t is dropped.
   kept-dropped : Kept a (afterDrop h t) (w ++ one event)
   kept-dropped = record {
     rise = x .rise;
     counted = at-most-later (h .numbered) (suc (h .numbered)) (numbersOf (requestsOf h)) (omega arith) (x .counted);
     count-is = omega (arith, x .count-is, length-append w (one event));
     count-fits = n;
-    named = named-omits w event (requestsOf h) (x .named);
     none-early = x .none-early;
     offered-rise = x .offered-rise;
     offered-past = at-most-later (h .date) t (offeredOf (requestsOf h)) l (x .offered-past);
     begun = omega (arith, x .begun);
   }
 
-  -- Its offer joins the requests.
+  -- It joins the requests.
   kept-joined : (h′ : History) → requestsOf h′ ≡ requestsOf h ++ one (numberedNext h c t) → h′ .numbered ≡ suc (h .numbered) → h′ .date ≡ t → NoneEarly (h′ .scheduled) → Kept a h′ (w ++ one event)
   kept-joined h′ e k d early =
       let i : numbersOf (requestsOf h′) ≡ numbersOf (requestsOf h) ++ one (suc (h .numbered)) = ap numbersOf e ∙ map-append (λ (r : Request). r .number) (requestsOf h) (one (numberedNext h c t)) in
@@ -132,7 +115,6 @@ module _ {a : Automaton} {h : History} {w : List Event} (c t : ℕ) (l : h .date
         counted = subst⁻¹ (AtMost (h′ .numbered)) i (at-most-more (h .numbered) (h′ .numbered) (suc (h .numbered)) (numbersOf (requestsOf h)) (omega arith) (omega arith) (x .counted));
         count-is = omega (arith, x .count-is, length-append w (one event));
         count-fits = omega arith;
-        named = subst⁻¹ (Named (w ++ one event)) e (named-more w (requestsOf h) (numberedNext h c t) (ap suc (x .count-is)) (x .named));
         none-early = early;
         offered-rise = subst⁻¹ (Monotone (a .loaded)) o (monotone-more (a .loaded) t (offeredOf (requestsOf h)) (x .offered-rise) (at-most-later (h .date) t (offeredOf (requestsOf h)) l (x .offered-past)) (omega (arith, x .begun)));
         offered-past = subst⁻¹ (AtMost (h′ .date)) o (at-most-more (h .date) (h′ .date) t (offeredOf (requestsOf h)) (omega arith) (omega arith) (x .offered-past));
@@ -151,14 +133,54 @@ stays-kept a h h′ w i v p Effect.rests x = subst⁻¹ (Kept a h) (append-nil w
 stays-kept a h h′ w i v p (Effect.passes t l) x = subst⁻¹ (Kept a (afterDate h t)) (append-nil w) (kept-later t (h .played) l x)
 stays-kept a h h′ w i v p (Effect.plays t e rest l q) x = subst⁻¹ (Kept a (afterPlay h t)) (append-nil w) (kept-later t (suc (h .played)) l x)
 stays-kept a h h′ w i v p (Effect.drops c t l n) x = kept-dropped c t l n x
-stays-kept a h h′ w i v p (Effect.holds c t l n) x = kept-joined c t l n x (afterHold h c t) (sym (append-assoc (requestsIn (h .scheduled)) (h .pending) (one (numberedNext h c t)))) refl refl (x .none-early)
+stays-kept a h h′ w i v p (Effect.holds c t l n) x = kept-joined c t l n x (afterHold h c t) (sym (requests-held h c t)) refl refl (x .none-early)
 stays-kept a h h′ w i v p (Effect.schedules c t ds l n k) x =
     kept-joined c t l n x (afterSchedule h c t ds) (requests-scheduled h c t ds (k .timing .each ∙ actions-length (joined h c t))) refl refl
     (early-append (h .scheduled) (place (joined h c t) ds) (x .none-early) (early-place t (joined h c t) ds (joined-past c t l n x) (k .timing .from-t)))
+
+-- ---- Which requests there are
+
+-- One call.
+call-keeps : (a : Automaton) (h h′ : History) (k : Call) (o : Outcome) (ks : List Call) (os : List Outcome) → Answers a h k o h′ → requestsOf h ++ keptFrom (k ∷ ks) (o ∷ os) (h .numbered) ≡ requestsOf h′ ++ keptFrom ks os (h′ .numbered)
+call-keeps a h h′ k o ks os (unknown x) = refl
+call-keeps a h h′ k o ks os (late x y) = refl
+call-keeps a h h′ k o ks os (past x y z) = refl
+call-keeps a h h′ k o ks os (no-number x y z u) = refl
+call-keeps a h h′ k o ks os (too-late p x y) = refl
+call-keeps a h h′ k o ks os (no-place p x y z) = refl
+call-keeps a h h′ k o ks os (Answers.schedules {c = c} {t = t} {ds = ds} p x y z) =
+    joins-end (requestsOf h) (numberedNext h c t) (keptFrom ks os (suc (h .numbered)))
+    ∙ ap (λ (rs : List Request). rs ++ keptFrom ks os (suc (h .numbered))) (sym (requests-scheduled h c t ds (x .correction .timing .each ∙ actions-length (joined h c t))))
+call-keeps a h h′ k o ks os (full p x y z) = refl
+call-keeps a h h′ k o ks os (Answers.holds {c = c} {t = t} p x y z) =
+    joins-end (requestsOf h) (numberedNext h c t) (keptFrom ks os (suc (h .numbered))) ∙ ap (λ (rs : List Request). rs ++ keptFrom ks os (suc (h .numbered))) (requests-held h c t)
+call-keeps a h h′ k o ks os (Answers.drops p x y) = refl
+call-keeps a h h′ k o ks os (late-collect x) = refl
+call-keeps a h h′ k o ks os (past-collect x y) = refl
+call-keeps a h h′ k o ks os (Answers.plays x y z u) = refl
+call-keeps a h h′ k o ks os (too-early x y z u) = refl
+call-keeps a h h′ k o ks os (empty x y z) = refl
+call-keeps a h h′ k o ks os (is-dark x) = refl
+call-keeps a h h′ k o ks os (is-lit x) = refl
+
+-- A list of calls.
+requests-kept : (a : Automaton) (h h′ : History) (ks : List Call) (os : List Outcome) → HistoryOf a h ks os h′ → requestsOf h′ ≡ requestsOf h ++ keptFrom ks os (h .numbered)
+requests-kept a h h′ ks os HistoryOf.end = sym (append-nil (requestsOf h))
+requests-kept a h h′ ks os (call {h′ = m} {k = k} {ks = rest} {o = o} {os = us} x r) = requests-kept a m h′ rest us r ∙ sym (call-keeps a h m k o rest us x)
 
 pub numbers : (a : Automaton) → Numbers a
 unfolding Numbers
 numbers a ks os h r =
     let x = kept a (λ (g : History) (w : List Event) (v : List Slot). Kept a g w) (stays-kept a) (fresh a) h ks os [] [] r
-    (record { rise = tt; counted = tt; count-is = refl; count-fits = omega arith; named = tt; none-early = tt; offered-rise = tt; offered-past = tt; begun = le-refl (a .loaded) }) in
-    record { rise = x .rise; counted = x .counted; count-is = x .count-is; count-fits = x .count-fits; named = x .named; none-early = x .none-early; offered-rise = x .offered-rise }
+    (record { rise = tt; counted = tt; count-is = refl; count-fits = omega arith; none-early = tt; offered-rise = tt; offered-past = tt; begun = le-refl (a .loaded) }) in
+    record {
+      rise = x .rise;
+      counted = x .counted;
+      count-is = x .count-is;
+      count-fits = x .count-fits;
+      requests-are = requests-kept a (fresh a) h ks os r;
+      keep = λ ks′ os′ h′ q. (keptFrom ks′ os′ (h .numbered), requests-kept a h h′ ks′ os′ q);
+      none-early = x .none-early;
+      offered-rise = x .offered-rise;
+      offered-past = x .offered-past;
+    }

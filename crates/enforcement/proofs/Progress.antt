@@ -8,7 +8,7 @@ use native.Mathlib.Nat.{le-refl}
 use lib.ListN.{length, length-append}
 use Rattle.enforcement.specs.Automaton.{Automaton, actions}
 use Rattle.enforcement.specs.TimedWord.{Configuration, Event, elapse, Run, Monotone, lastOf, lastDate, datesOf, stamp, origin, step, Accepting, Accepts, Known, Timing, Correction, Continues, OneIfNone}
-use Rattle.enforcement.specs.History.{Request, Slot, actionsOf, wordOf, History, fresh, Call, offer, Outcome, dropped, numberedNext, joined, Passes, Corrects, Uncorrectable, IsOpen, afterSchedule, afterHold, afterDrop, afterDate, Dark, Schedulable, Schedulable.schedules, Schedulable.holds, Schedulable.drops, Answers, unknown, late, past, no-number, too-late, no-place, Answers.schedules, full, Answers.holds, Answers.drops, late-collect, past-collect, plays, too-early, empty, is-dark, is-lit, HistoryOf, end, call}
+use Rattle.enforcement.specs.History.{Request, Slot, actionsOf, wordOf, History, fresh, Call, offer, Outcome, dropped, numberedNext, joined, Passes, Corrects, Uncorrectable, IsOpen, afterSchedule, afterHold, afterDrop, Dark, Schedulable, Schedulable.schedules, Schedulable.holds, Schedulable.drops, Answers, unknown, late, past, no-number, too-late, no-place, Answers.schedules, full, Answers.holds, Answers.drops, late-collect, past-collect, plays, too-early, empty, is-dark, is-lit, HistoryOf, end, call}
 use Rattle.enforcement.proofs.Slots.{actions-append}
 use Rattle.enforcement.proofs.Saturation.{Steps, Ending}
 use Rattle.enforcement.proofs.Runs

@@ -14,7 +14,7 @@ use Rattle.enforcement.specs.Automaton.{Automaton}
 use Rattle.enforcement.specs.TimedWord.{Configuration, Event, lastOf}
 use Rattle.enforcement.specs.Reason.{I-7, I-8, S-1, S-2, S-3, S-4, S-5}
 use Rattle.enforcement.specs.Loading.{Bounded}
-use Rattle.enforcement.specs.History.{Request, Slot, actionsOf, wordOf, place, History, schedule, freeSlots, Call, offer, collect, lamp, Outcome, scheduled, dropped, played, nothing, lit, dark, refused, numberedNext, joined, Passes, Chosen, Uncorrectable, IsOpen, afterSchedule, afterHold, afterDrop, afterDate, afterPlay, Dark, Answers, unknown, late, past, no-number, too-late, no-place, Answers.schedules, full, Answers.holds, Answers.drops, late-collect, past-collect, plays, too-early, empty, is-dark, is-lit, HistoryOf, end, call}
+use Rattle.enforcement.specs.History.{Request, Slot, actionsOf, wordOf, place, History, schedule, freeSlots, Call, offer, collect, lamp, Outcome, scheduled, played, nothing, lit, dark, refused, numberedNext, joined, Passes, Chosen, Uncorrectable, IsOpen, afterSchedule, afterHold, afterDrop, afterDate, afterPlay, Dark, Answers, unknown, late, past, no-number, too-late, no-place, Answers.schedules, full, Answers.holds, Answers.drops, late-collect, past-collect, plays, too-early, empty, is-dark, is-lit, HistoryOf, end, call}
 use Rattle.enforcement.specs.Model.{Prospect, ticks, extensible, dead, Compiled, prospect, dates, advance, saturated, oneClock}
 use Rattle.enforcement.specs.Monitor.{Monitor, isLit, lampLit, withLamp, dated, placed, kept, decided, checked, offered, taken, oldest, picked, collected, answer, Replayed, replay}
 use Rattle.enforcement.specs.Demands.{Reaches, StandsFor, Demand2}

@@ -1,15 +1,15 @@
 -- What holds of the numbers that a history gives (request F-2 of document 02).
 use mathlib.Core.Path.{_≡_}
 use mathlib.Core.List.{List, [], _∷_, _++_, map}
-use mathlib.Core.Option.{some}
-use Prim.Native.Nat.{ℕ, _-_, _≤_, _<_}
-use lib.ListN.{length, getElem?}
+use Prim.Native.Nat.{ℕ, suc, _≤_, _<_}
+use lib.ListN.{length}
 use Rattle.enforcement.specs.Limits.{maxNumbered}
 use Rattle.enforcement.specs.Automaton.{Automaton}
-use Rattle.enforcement.specs.TimedWord.{Event, Monotone}
-use Rattle.enforcement.specs.History.{Request, Slot, History, fresh, Call, Outcome, HistoryOf}
+use Rattle.enforcement.specs.TimedWord.{Monotone}
+use Rattle.enforcement.specs.History.{Request, Slot, History, fresh, Call, offer, collect, lamp, Outcome, scheduled, held, dropped, played, nothing, lit, dark, refused, HistoryOf}
 use Rattle.enforcement.specs.Constraints.{inputOf}
 
+-- The requests of what is scheduled.
 abbrev pub requestsIn : List Slot → List Request
 requestsIn ss = map (λ (s : Slot). s .request) ss
 
@@ -38,21 +38,39 @@ abbrev pub NoneEarly : List Slot → Type 0
 NoneEarly [] = Unit {0}
 NoneEarly (s ∷ ss) = (s .request .offered ≤ s .date) × NoneEarly ss
 
--- The number of each request is the place, from 1, of its action and offered date in the input.
-abbrev pub Named : List Event → List Request → Type 0
-Named w [] = Unit {0}
-Named w (r ∷ rs) = (getElem? w (r .number - 1) ≡ some (record { action = r .action; date = r .offered })) × Named w rs
+-- By the outcome of an offer of c at t, where n offers were numbered before it, and f is of the calls after it: it is kept with the next number where it was scheduled or held; a dropped one takes a number too, and a
+-- refused one takes none.
+abbrev pub keptIf : Outcome → ℕ → ℕ → ℕ → (ℕ → List Request) → List Request
+keptIf (scheduled m d) n c t f = record { action = c; number = suc n; offered = t } ∷ f (suc n)
+keptIf held n c t f = record { action = c; number = suc n; offered = t } ∷ f (suc n)
+keptIf dropped n c t f = f (suc n)
+keptIf (played d e i o) n c t f = f n
+keptIf nothing n c t f = f n
+keptIf lit n c t f = f n
+keptIf dark n c t f = f n
+keptIf (refused r) n c t f = f n
+
+-- The offers of a list of calls that were scheduled or held, each with its number, where n offers were numbered before.
+abbrev pub keptFrom : List Call → List Outcome → ℕ → List Request
+keptFrom [] os n = []
+keptFrom (k ∷ ks) [] n = []
+keptFrom (offer c t ∷ ks) (o ∷ os) n = keptIf o n c t (keptFrom ks os)
+keptFrom (collect t ∷ ks) (o ∷ os) n = keptFrom ks os n
+keptFrom (lamp ∷ ks) (o ∷ os) n = keptFrom ks os n
 
 -- Of the calls ks, which answered os and left the history h: the numbers of everything ever scheduled, followed by those of what is pending, rise strictly from 1 or more and are at most the count; the
--- count is that of the offers that were not refused, and is within the limit; each number names its offer; no scheduled action is dated before it was offered; and offered dates never fall along the numbers.
+-- count is that of the offers that were not refused, and is within the limit; these requests are the offers that were scheduled or held, each with its place among those not refused as its number; later calls keep
+-- them, and add to their end; no scheduled action is dated before it was offered; offered dates never fall along the numbers, and none is after the history's date.
 pub record Numbering (a : Automaton) (ks : List Call) (os : List Outcome) (h : History) : Type 0 where
   pub rise : Rising 0 (numbersOf (requestsOf h))
   pub counted : AtMost (h .numbered) (numbersOf (requestsOf h))
   pub count-is : h .numbered ≡ length (inputOf ks os)
   pub count-fits : h .numbered ≤ maxNumbered
-  pub named : Named (inputOf ks os) (requestsOf h)
+  pub requests-are : requestsOf h ≡ keptFrom ks os 0
+  pub keep : (ks′ : List Call) (os′ : List Outcome) (h′ : History) → HistoryOf a h ks′ os′ h′ → (v : List Request) × (requestsOf h′ ≡ requestsOf h ++ v)
   pub none-early : NoneEarly (h .scheduled)
   pub offered-rise : Monotone (a .loaded) (offeredOf (requestsOf h))
+  pub offered-past : AtMost (h .date) (offeredOf (requestsOf h))
 
 -- For every list of calls.
 unfoldable pub Numbers : Automaton → Type 0

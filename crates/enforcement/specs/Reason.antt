@@ -4,7 +4,7 @@ use Prim.Native.Nat.{ℕ}
 pub data Reason : Type 0 where
   I-1 I-2 I-3 I-4 I-5 I-6 I-7 I-8 S-1 S-2 S-3 S-4 S-5 : Reason
 
--- The order in which the reasons are tested: 1 to 8 for I-1 to I-8, then S-1, S-5, and S-2 to S-4.
+-- The order in which a load tests its reasons, which are the first six. The others are of calls, and no order is read off their numbers: `Answers` of the history has it.
 abbrev pub number : Reason → ℕ
 number I-1 = 1
 number I-2 = 2
@@ -15,7 +15,7 @@ number I-6 = 6
 number I-7 = 7
 number I-8 = 8
 number S-1 = 9
-number S-5 = 10
-number S-2 = 11
-number S-3 = 12
-number S-4 = 13
+number S-2 = 10
+number S-3 = 11
+number S-4 = 12
+number S-5 = 13

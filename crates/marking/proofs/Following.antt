@@ -39,7 +39,7 @@ held-text : (a : Answer) (h : ℕ) → ((n : ℕ) → a ≡ Held n → n ≡ h) 
 held-text (Scheduled n d) h e = refl
 held-text (Held n) h e = ap (λ (k : ℕ). answerText (Held k)) (e n refl)
 held-text Dropped h e = refl
-held-text (Played c d n t) h e = refl
+held-text (Played e) h f = refl
 held-text Nothing h e = refl
 held-text Lit h e = refl
 held-text Dark h e = refl

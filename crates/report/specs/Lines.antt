@@ -57,7 +57,7 @@ abbrev pub heldCount : Answer → ℕ
 heldCount (Scheduled n d) = 0
 heldCount (Held h) = h
 heldCount Dropped = 0
-heldCount (Played c d n t) = 0
+heldCount (Played e) = 0
 heldCount Nothing = 0
 heldCount Lit = 0
 heldCount Dark = 0

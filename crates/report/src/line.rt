@@ -2,6 +2,7 @@
 use crate::text::put;
 use crate::text::put_figure;
 use crate::text::put_number;
+use retimer::limits::Slot;
 use retimer::reason::Reason;
 use retimer::sheet::Checked;
 use retimer::sheet::Counts;
@@ -10,11 +11,11 @@ ghost use mathlib.Core.Path.{_≡_};
 ghost use mathlib.Core.List.{_++_};
 ghost use Prim.Native.Nat.{_+_, _≤_};
 ghost use lib.ListN.{length};
-ghost use Rattle.enforcement.specs.History.{played};
+ghost use Rattle.retimer.specs.declared.state.Answer.the-variants.{Played};
 ghost use Rattle.retimer.specs.Reasons.{reasonOf};
 ghost use Rattle.retimer.specs.Checked.{figuresOf, checkedOf};
 ghost use Rattle.report.specs.Texts.{ascii, numeral, figure, Wrote};
-ghost use Rattle.report.specs.Lines.{reasonText, headerText, sheetLine, refusedLine, checkedLine, outcomeText, answerText, lampText, callLine, tailLine};
+ghost use Rattle.report.specs.Lines.{reasonText, headerText, sheetLine, refusedLine, checkedLine, answerText, lampText, callLine, tailLine};
 
 // Room for a call's line, and for a sheet's.
 pub const LINE: usize = 120;
@@ -102,13 +103,14 @@ fn put_dated(out: &mut [u8], at: usize, word: &[u8], n: u8, date: u32) -> usize
 }
 
 // A played action with its date, its number and its offered date.
-fn put_played(out: &mut [u8], at: usize, action: u8, date: u32, number: u32, offered: u32) -> usize
+fn put_played(out: &mut [u8], at: usize, slot: Slot) -> usize
     requires { ⌜ at + 90 ≤ length (now out) ⌝ }
-    ensures { λ e. ⌜ Wrote (now (out .entry)) at (outcomeText 0 (played action date number offered)) (now (out .exit)) e ⌝ }
+    ensures { λ e. ⌜ Wrote (now (out .entry)) at (answerText (Played slot)) (now (out .exit)) e ⌝ }
 {
-    let dated = put_dated(out, at, b"played ", action, date);
-    let numbered = put_figure(out, dated, b" ", number as u64);
-    put_figure(out, numbered, b" ", offered as u64)
+    let r = slot.request;
+    let dated = put_dated(out, at, b"played ", r.action, slot.date);
+    let numbered = put_figure(out, dated, b" ", r.number as u64);
+    put_figure(out, numbered, b" ", r.offered as u64)
 }
 
 // What a call answered.
@@ -120,12 +122,7 @@ pub fn put_answer(out: &mut [u8], at: usize, a: Answer) -> usize
         Answer::Scheduled { count, last } => put_dated(out, at, b"scheduled ", count, last),
         Answer::Held(count) => put_figure(out, at, b"held ", count as u64),
         Answer::Dropped => put(out, at, b"dropped"),
-        Answer::Played {
-            action,
-            date,
-            number,
-            offered,
-        } => put_played(out, at, action, date, number, offered),
+        Answer::Played(slot) => put_played(out, at, slot),
         Answer::Nothing => put(out, at, b"none"),
         Answer::Lit => put(out, at, b"lit"),
         Answer::Dark => put(out, at, b"dark"),

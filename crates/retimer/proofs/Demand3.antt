@@ -63,7 +63,7 @@ abbrev answerFor : Outcome → Answer → Answer
 answerFor (scheduled n d) a = Scheduled n d
 answerFor held a = a
 answerFor dropped a = Dropped
-answerFor (played c d n t) a = Played c d n t
+answerFor (played c d n t) a = Played (record { request = record { action = c; number = n; offered = t }; date = d })
 answerFor nothing a = Nothing
 answerFor lit a = Lit
 answerFor dark a = Dark
@@ -74,7 +74,7 @@ determined : (a : Answer) → answerFor (outcomeOf a) a ≡ a
 determined (Scheduled n d) = refl
 determined (Held n) = refl
 determined Dropped = refl
-determined (Played c d n t) = refl
+determined (Played e) = refl
 determined Nothing = refl
 determined Lit = refl
 determined Dark = refl

@@ -93,7 +93,7 @@ abbrev pub Plain : Answer → Type 0
 Plain (Scheduled n d) = Unit {0}
 Plain (Held n) = ⊥
 Plain Dropped = Unit {0}
-Plain (Played c d n t) = Unit {0}
+Plain (Played e) = Unit {0}
 Plain Nothing = Unit {0}
 Plain Lit = Unit {0}
 Plain Dark = Unit {0}
@@ -257,5 +257,5 @@ module _ {s : Bytes} {live : List ℕ} (q : State) (t : ℕ) (lit : Bool) (f : S
     playing-sound : StateSound s live (playing q t slots lit)
     playing-sound = record { loads = f .loads; table = f .table; pending-sized = f .pending-sized; held-fits = f .held-fits; schedule-sized = n; planned-fits = omega (arith, f .planned-fits); standing = f .standing; date-fits = h; last-fits = f .last-fits; numbered-fits = f .numbered-fits }
 
-    pub played-done : Done s live q answered (record { state = playing q t slots lit; answer = Played (first q .request .action) (first q .date) (first q .request .number) (first q .request .offered) })
-    played-done = plain-done q answered (record { state = playing q t slots lit; answer = Played (first q .request .action) (first q .date) (first q .request .number) (first q .request .offered) }) tt (λ z. absurd z) played-is playing-sound
+    pub played-done : Done s live q answered (record { state = playing q t slots lit; answer = Played (first q) })
+    played-done = plain-done q answered (record { state = playing q t slots lit; answer = Played (first q) }) tt (λ z. absurd z) played-is playing-sound

@@ -35,7 +35,7 @@ abbrev pub outcomeOf : Answer → Outcome
 outcomeOf (Scheduled n d) = scheduled n d
 outcomeOf (Held n) = held
 outcomeOf Dropped = dropped
-outcomeOf (Played c d n t) = played c d n t
+outcomeOf (Played e) = played (e .request .action) (e .date) (e .request .number) (e .request .offered)
 outcomeOf Nothing = nothing
 outcomeOf Lit = lit
 outcomeOf Dark = dark
@@ -87,7 +87,7 @@ abbrev pub Idle : Answer → Type 0
 Idle (Scheduled n d) = ⊥
 Idle (Held n) = ⊥
 Idle Dropped = Unit {0}
-Idle (Played c d n t) = ⊥
+Idle (Played e) = ⊥
 Idle Nothing = Unit {0}
 Idle Lit = Unit {0}
 Idle Dark = Unit {0}

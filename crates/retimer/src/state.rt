@@ -25,18 +25,10 @@ ghost use Rattle.retimer.specs.Calls.{initialState, refusal, dropping, l
 
 // What a call answers.
 pub enum Answer {
-    Scheduled {
-        count: u8,
-        last: u32,
-    },
+    Scheduled { count: u8, last: u32 },
     Held(u8),
     Dropped,
-    Played {
-        action: u8,
-        date: u32,
-        number: u32,
-        offered: u32,
-    },
+    Played(Slot),
     Nothing,
     Lit,
     Dark,
@@ -370,17 +362,11 @@ impl State {
             };
         }
         let rest = lists::without_first(slots, n);
-        let request = first.request;
         self.schedule = rest;
         self.planned = n - 1;
         Moved {
             state: self,
-            answer: Answer::Played {
-                action: request.action,
-                date: first.date,
-                number: request.number,
-                offered: request.offered,
-            },
+            answer: Answer::Played(first),
         }
     }
 }

@@ -32,10 +32,10 @@ sub-self c = search needs
 
 returns-3 : tie.Need-returns-3
 returns-3 c =
-    let a = c .before .before .before .before .before .before .before .before .before .before in
-    let l = c .before .before .before .before .before .before .before .lit-at in
-    let w = c .before .without-first in
-    played-done (a .args .self) (a .args .t) (l .result) (a .pre .0 .sound) (a .pre .1 .1) (l .ensures) (w .result) (omega (arith, c .before .before .before .before .if1 .left)) (omega (arith, c .before .before .if2 .left)) (w .ensures .0) (w .ensures .1)
+    let a = c .before .before .before .before .before .before .before .before .before in
+    let l = c .before .before .before .before .before .before .lit-at in
+    let w = c .without-first in
+    played-done (a .args .self) (a .args .t) (l .result) (a .pre .0 .sound) (a .pre .1 .1) (l .ensures) (w .result) (omega (arith, c .before .before .before .if1 .left)) (omega (arith, c .before .if2 .left)) (w .ensures .0) (w .ensures .1)
 
 pub play-spec : {M : Type 1} → statement M
 play-spec =
