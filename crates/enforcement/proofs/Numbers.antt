@@ -1,15 +1,15 @@
 -- What holds of the numbers of every history: what each call does to them, and so every list of calls.
 use mathlib.Core.Path.{_≡_, refl, ap, sym, _∙_, subst, subst⁻¹}
 use mathlib.Core.List.{List, [], _∷_, _++_, append-assoc, append-nil, map-append}
-use Prim.Native.Nat.{ℕ, suc, _≤_, _<_}
+use Prim.Native.Nat.{ℕ, zero, suc, _≤_, _<_}
 use native.Mathlib.Omega.{arith}
 use native.Mathlib.Nat.{le-refl}
-use lib.ListN.{length, length-append}
+use lib.ListN.{length, length-append, drop}
 use Rattle.enforcement.specs.Limits.{maxNumbered}
 use Rattle.enforcement.specs.Automaton.{Automaton}
 use Rattle.enforcement.specs.TimedWord.{Event, Monotone}
 use Rattle.enforcement.specs.History.{Request, Slot, place, History, fresh, Call, Outcome, numberedNext, joined, afterSchedule, afterHold, afterDate, afterDrop, afterPlay, Answers, unknown, late, past, no-number, too-late, no-place, full, late-collect, past-collect, too-early, empty, is-dark, is-lit, HistoryOf, call}
-use Rattle.enforcement.specs.Numbers.{requestsIn, requestsOf, numbersOf, offeredOf, Rising, AtMost, NoneEarly, keptFrom, Numbers}
+use Rattle.enforcement.specs.Numbers.{requestsIn, requestsOver, requestsOf, numbersOf, offeredOf, Rising, AtMost, NoneEarly, Ordered, keptFrom, Numbers}
 use Rattle.enforcement.proofs.Slots.{actions-length, request-place}
 use Rattle.enforcement.proofs.Runs.{monotone-from}
 use Rattle.enforcement.proofs.Constraints.{one, Effect, kept}
@@ -63,28 +63,65 @@ requests-held h c t = append-assoc (requestsIn (h .scheduled)) (h .pending) (one
 joins-end : (rs : List Request) (r : Request) (qs : List Request) → rs ++ (r ∷ qs) ≡ (rs ++ one r) ++ qs
 joins-end rs r qs = sym (append-assoc rs (one r) qs)
 
+-- ---- Lists in order
+
+-- They are so at a later date, with more offers numbered.
+ordered-later : {b d n : ℕ} {ss : List Slot} {rs : List Request} (e m : ℕ) → d ≤ e → n ≤ m → Ordered b d n ss rs → Ordered b e m ss rs
+ordered-later {b} {d} {n} {ss} {rs} e m h k x = record {
+  rise = x .rise;
+  counted = at-most-later n m (numbersOf (requestsOver ss rs)) k (x .counted);
+  none-early = x .none-early;
+  offered-rise = x .offered-rise;
+  offered-past = at-most-later d e (offeredOf (requestsOver ss rs)) h (x .offered-past);
+}
+
+-- They are so with one more at their end, which has the next number.
+ordered-more : {b d n : ℕ} {ss : List Slot} {rs : List Request} (r : Request) (ss′ : List Slot) (rs′ : List Request) → requestsOver ss′ rs′ ≡ requestsOver ss rs ++ one r → r .number ≡ suc n → b ≤ d → d ≤ r .offered → NoneEarly ss′ → Ordered b d n ss rs → Ordered b (r .offered) (suc n) ss′ rs′
+ordered-more {b} {d} {n} {ss} {rs} r ss′ rs′ e k l h early x =
+    let is : List ℕ = numbersOf (requestsOver ss rs) in
+    let ts : List ℕ = offeredOf (requestsOver ss rs) in
+    let i : numbersOf (requestsOver ss′ rs′) ≡ is ++ one (r .number) = ap numbersOf e ∙ map-append (λ (r : Request). r .number) (requestsOver ss rs) (one r) in
+    let o : offeredOf (requestsOver ss′ rs′) ≡ ts ++ one (r .offered) = ap offeredOf e ∙ map-append (λ (r : Request). r .offered) (requestsOver ss rs) (one r) in
+    record {
+      rise = subst⁻¹ (Rising 0) i (rising-more 0 n (r .number) is (x .rise) (x .counted) (omega arith) (omega arith));
+      counted = subst⁻¹ (AtMost (suc n)) i (at-most-more n (suc n) (r .number) is (omega arith) (omega arith) (x .counted));
+      none-early = early;
+      offered-rise = subst⁻¹ (Monotone b) o (monotone-more b (r .offered) ts (x .offered-rise) (at-most-later d (r .offered) ts h (x .offered-past)) (omega arith));
+      offered-past = subst⁻¹ (AtMost (r .offered)) o (at-most-more d (r .offered) (r .offered) ts h (le-refl (r .offered)) (x .offered-past));
+    }
+
+rising-from : (n m : ℕ) (is : List ℕ) → n ≤ m → Rising m is → Rising n is
+rising-from n m [] h r = tt
+rising-from n m (i ∷ is) h r = (omega (arith, r .0), r .1)
+
+-- They are so without the first that are scheduled.
+ordered-left : {b d n : ℕ} (i : ℕ) (ss : List Slot) (rs : List Request) → Ordered b d n ss rs → Ordered b d n (drop i ss) rs
+ordered-left zero ss rs x = x
+ordered-left (suc i) [] rs x = x
+ordered-left {b} (suc i) (s ∷ ss) rs x =
+    ordered-left i ss rs
+    (record {
+      rise = rising-from 0 (s .request .number) (numbersOf (requestsOver ss rs)) (omega (arith, x .rise .0)) (x .rise .1);
+      counted = x .counted .1;
+      none-early = x .none-early .1;
+      offered-rise = monotone-from b (s .request .offered) (offeredOf (requestsOver ss rs)) (x .offered-rise .0) (x .offered-rise .1);
+      offered-past = x .offered-past .1;
+    })
+
 -- ---- What every call keeps
 
 record Kept (a : Automaton) (h : History) (w : List Event) : Type 0 where
-  rise : Rising 0 (numbersOf (requestsOf h))
-  counted : AtMost (h .numbered) (numbersOf (requestsOf h))
+  ordered : Ordered (a .loaded) (h .date) (h .numbered) (h .scheduled) (h .pending)
   count-is : h .numbered ≡ length w
   count-fits : h .numbered ≤ maxNumbered
-  none-early : NoneEarly (h .scheduled)
-  offered-rise : Monotone (a .loaded) (offeredOf (requestsOf h))
-  offered-past : AtMost (h .date) (offeredOf (requestsOf h))
   begun : a .loaded ≤ h .date
 
 -- A call that numbers nothing: only the date moves, and what was played.
 kept-later : {a : Automaton} {h : History} {w : List Event} (t n : ℕ) → h .date ≤ t → Kept a h w → Kept a (record { date = t; scheduled = h .scheduled; pending = h .pending; played = n; numbered = h .numbered }) w
 kept-later {a} {h} t n l x = record {
-  rise = x .rise;
-  counted = x .counted;
+  ordered = ordered-later t (h .numbered) l (le-refl (h .numbered)) (x .ordered);
   count-is = x .count-is;
   count-fits = x .count-fits;
-  none-early = x .none-early;
-  offered-rise = x .offered-rise;
-  offered-past = at-most-later (h .date) t (offeredOf (requestsOf h)) l (x .offered-past);
   begun = omega (arith, x .begun);
 }
 
@@ -92,40 +129,28 @@ module _ {a : Automaton} {h : History} {w : List Event} (c t : ℕ) (l : h .date
   abbrev event : Event
   event = record { action = c; date = t }
 
-  -- The offer of c at t is dropped.
-  kept-dropped : Kept a (afterDrop h t) (w ++ one event)
-  kept-dropped = record {
-    rise = x .rise;
-    counted = at-most-later (h .numbered) (suc (h .numbered)) (numbersOf (requestsOf h)) (omega arith) (x .counted);
+  -- The offer of c at t has the next number: by what the lists are then.
+  kept-numbered : (ss : List Slot) (rs : List Request) → Ordered (a .loaded) t (suc (h .numbered)) ss rs → Kept a (record { date = t; scheduled = ss; pending = rs; played = h .played; numbered = suc (h .numbered) }) (w ++ one event)
+  kept-numbered ss rs o = record {
+    ordered = o;
     count-is = omega (arith, x .count-is, length-append w (one event));
     count-fits = n;
-    none-early = x .none-early;
-    offered-rise = x .offered-rise;
-    offered-past = at-most-later (h .date) t (offeredOf (requestsOf h)) l (x .offered-past);
     begun = omega (arith, x .begun);
   }
 
+  -- It is dropped.
+  kept-dropped : Kept a (afterDrop h t) (w ++ one event)
+  kept-dropped = kept-numbered (h .scheduled) (h .pending) (ordered-later t (suc (h .numbered)) l (omega arith) (x .ordered))
+
   -- It joins the requests.
-  kept-joined : (h′ : History) → requestsOf h′ ≡ requestsOf h ++ one (numberedNext h c t) → h′ .numbered ≡ suc (h .numbered) → h′ .date ≡ t → NoneEarly (h′ .scheduled) → Kept a h′ (w ++ one event)
-  kept-joined h′ e k d early =
-      let i : numbersOf (requestsOf h′) ≡ numbersOf (requestsOf h) ++ one (suc (h .numbered)) = ap numbersOf e ∙ map-append (λ (r : Request). r .number) (requestsOf h) (one (numberedNext h c t)) in
-      let o : offeredOf (requestsOf h′) ≡ offeredOf (requestsOf h) ++ one t = ap offeredOf e ∙ map-append (λ (r : Request). r .offered) (requestsOf h) (one (numberedNext h c t)) in
-      record {
-        rise = subst⁻¹ (Rising 0) i (rising-more 0 (h .numbered) (suc (h .numbered)) (numbersOf (requestsOf h)) (x .rise) (x .counted) (omega arith) (omega arith));
-        counted = subst⁻¹ (AtMost (h′ .numbered)) i (at-most-more (h .numbered) (h′ .numbered) (suc (h .numbered)) (numbersOf (requestsOf h)) (omega arith) (omega arith) (x .counted));
-        count-is = omega (arith, x .count-is, length-append w (one event));
-        count-fits = omega arith;
-        none-early = early;
-        offered-rise = subst⁻¹ (Monotone (a .loaded)) o (monotone-more (a .loaded) t (offeredOf (requestsOf h)) (x .offered-rise) (at-most-later (h .date) t (offeredOf (requestsOf h)) l (x .offered-past)) (omega (arith, x .begun)));
-        offered-past = subst⁻¹ (AtMost (h′ .date)) o (at-most-more (h .date) (h′ .date) t (offeredOf (requestsOf h)) (omega arith) (omega arith) (x .offered-past));
-        begun = omega (arith, x .begun);
-      }
+  kept-joined : (ss : List Slot) (rs : List Request) → requestsOver ss rs ≡ requestsOf h ++ one (numberedNext h c t) → NoneEarly ss → Kept a (record { date = t; scheduled = ss; pending = rs; played = h .played; numbered = suc (h .numbered) }) (w ++ one event)
+  kept-joined ss rs e early = kept-numbered ss rs (ordered-more (numberedNext h c t) ss rs e refl (x .begun) l early (x .ordered))
 
   -- What is pending, and the offer, were offered by t.
   joined-past : AtMost t (offeredOf (joined h c t))
   joined-past =
       let q : List Request = requestsIn (h .scheduled) in
-      let p : AtMost (h .date) (offeredOf (h .pending)) = at-most-rest (h .date) (offeredOf q) (offeredOf (h .pending)) (subst (AtMost (h .date)) (map-append (λ (r : Request). r .offered) q (h .pending)) (x .offered-past)) in
+      let p : AtMost (h .date) (offeredOf (h .pending)) = at-most-rest (h .date) (offeredOf q) (offeredOf (h .pending)) (subst (AtMost (h .date)) (map-append (λ (r : Request). r .offered) q (h .pending)) (x .ordered .offered-past)) in
       subst⁻¹ (AtMost t) (map-append (λ (r : Request). r .offered) (h .pending) (one (numberedNext h c t))) (at-most-more (h .date) t t (offeredOf (h .pending)) l (le-refl t) p)
 
 stays-kept : (a : Automaton) (h h′ : History) (w i : List Event) (v p : List Slot) → Effect a h i p h′ → Kept a h w → Kept a h′ (w ++ i)
@@ -133,10 +158,10 @@ stays-kept a h h′ w i v p Effect.rests x = subst⁻¹ (Kept a h) (append-nil w
 stays-kept a h h′ w i v p (Effect.passes t l) x = subst⁻¹ (Kept a (afterDate h t)) (append-nil w) (kept-later t (h .played) l x)
 stays-kept a h h′ w i v p (Effect.plays t e rest l q) x = subst⁻¹ (Kept a (afterPlay h t)) (append-nil w) (kept-later t (suc (h .played)) l x)
 stays-kept a h h′ w i v p (Effect.drops c t l n) x = kept-dropped c t l n x
-stays-kept a h h′ w i v p (Effect.holds c t l n) x = kept-joined c t l n x (afterHold h c t) (sym (requests-held h c t)) refl refl (x .none-early)
+stays-kept a h h′ w i v p (Effect.holds c t l n) x = kept-joined c t l n x (h .scheduled) (joined h c t) (sym (requests-held h c t)) (x .ordered .none-early)
 stays-kept a h h′ w i v p (Effect.schedules c t ds l n k) x =
-    kept-joined c t l n x (afterSchedule h c t ds) (requests-scheduled h c t ds (k .timing .each ∙ actions-length (joined h c t))) refl refl
-    (early-append (h .scheduled) (place (joined h c t) ds) (x .none-early) (early-place t (joined h c t) ds (joined-past c t l n x) (k .timing .from-t)))
+    kept-joined c t l n x (h .scheduled ++ place (joined h c t) ds) [] (requests-scheduled h c t ds (k .timing .each ∙ actions-length (joined h c t)))
+    (early-append (h .scheduled) (place (joined h c t) ds) (x .ordered .none-early) (early-place t (joined h c t) ds (joined-past c t l n x) (k .timing .from-t)))
 
 -- ---- Which requests there are
 
@@ -172,15 +197,12 @@ pub numbers : (a : Automaton) → Numbers a
 unfolding Numbers
 numbers a ks os h r =
     let x = kept a (λ (g : History) (w : List Event) (v : List Slot). Kept a g w) (stays-kept a) (fresh a) h ks os [] [] r
-    (record { rise = tt; counted = tt; count-is = refl; count-fits = omega arith; none-early = tt; offered-rise = tt; offered-past = tt; begun = le-refl (a .loaded) }) in
+    (record { ordered = record { rise = tt; counted = tt; none-early = tt; offered-rise = tt; offered-past = tt }; count-is = refl; count-fits = omega arith; begun = le-refl (a .loaded) }) in
     record {
-      rise = x .rise;
-      counted = x .counted;
+      ordered = x .ordered;
+      left-ordered = ordered-left (h .played) (h .scheduled) (h .pending) (x .ordered);
       count-is = x .count-is;
       count-fits = x .count-fits;
       requests-are = requests-kept a (fresh a) h ks os r;
       keep = λ ks′ os′ h′ q. (keptFrom ks′ os′ (h .numbered), requests-kept a h h′ ks′ os′ q);
-      none-early = x .none-early;
-      offered-rise = x .offered-rise;
-      offered-past = x .offered-past;
     }

@@ -6,16 +6,20 @@ use lib.ListN.{length}
 use Rattle.enforcement.specs.Limits.{maxNumbered}
 use Rattle.enforcement.specs.Automaton.{Automaton}
 use Rattle.enforcement.specs.TimedWord.{Monotone}
-use Rattle.enforcement.specs.History.{Request, Slot, History, fresh, Call, offer, collect, lamp, Outcome, scheduled, held, dropped, played, nothing, lit, dark, refused, HistoryOf}
+use Rattle.enforcement.specs.History.{Request, Slot, History, fresh, schedule, Call, offer, collect, lamp, Outcome, scheduled, held, dropped, played, nothing, lit, dark, refused, HistoryOf}
 use Rattle.enforcement.specs.Constraints.{inputOf}
 
 -- The requests of what is scheduled.
 abbrev pub requestsIn : List Slot → List Request
 requestsIn ss = map (λ (s : Slot). s .request) ss
 
--- The requests of everything ever scheduled, followed by those that are pending.
+-- The requests of what is scheduled, followed by those that are pending.
+abbrev pub requestsOver : List Slot → List Request → List Request
+requestsOver ss rs = requestsIn ss ++ rs
+
+-- Those of everything ever scheduled and of what is pending.
 abbrev pub requestsOf : History → List Request
-requestsOf h = requestsIn (h .scheduled) ++ h .pending
+requestsOf h = requestsOver (h .scheduled) (h .pending)
 
 abbrev pub numbersOf : List Request → List ℕ
 numbersOf rs = map (λ (r : Request). r .number) rs
@@ -38,16 +42,25 @@ abbrev pub NoneEarly : List Slot → Type 0
 NoneEarly [] = Unit {0}
 NoneEarly (s ∷ ss) = (s .request .offered ≤ s .date) × NoneEarly ss
 
--- By the outcome of an offer of c at t, where n offers were numbered before it, and f is of the calls after it: it is kept with the next number where it was scheduled or held; a dropped one takes a number too, and a
--- refused one takes none.
+-- Of what is scheduled, followed by what is pending, with n offers numbered by the date d: the numbers rise strictly from 1 or more and are at most n; no scheduled action is dated before it was offered;
+-- offered dates never fall along the numbers, from the date b on, and none is after d.
+pub record Ordered (b d n : ℕ) (ss : List Slot) (rs : List Request) : Type 0 where
+  pub rise : Rising 0 (numbersOf (requestsOver ss rs))
+  pub counted : AtMost n (numbersOf (requestsOver ss rs))
+  pub none-early : NoneEarly ss
+  pub offered-rise : Monotone b (offeredOf (requestsOver ss rs))
+  pub offered-past : AtMost d (offeredOf (requestsOver ss rs))
+
+-- By the outcome of an offer of c at t, where n offers were numbered before it, and f is of the calls after it: it is kept with the next number where it was scheduled or held; any other takes a
+-- number too, but for a refused one.
 abbrev pub keptIf : Outcome → ℕ → ℕ → ℕ → (ℕ → List Request) → List Request
 keptIf (scheduled m d) n c t f = record { action = c; number = suc n; offered = t } ∷ f (suc n)
 keptIf held n c t f = record { action = c; number = suc n; offered = t } ∷ f (suc n)
 keptIf dropped n c t f = f (suc n)
-keptIf (played d e i o) n c t f = f n
-keptIf nothing n c t f = f n
-keptIf lit n c t f = f n
-keptIf dark n c t f = f n
+keptIf (played d e i o) n c t f = f (suc n)
+keptIf nothing n c t f = f (suc n)
+keptIf lit n c t f = f (suc n)
+keptIf dark n c t f = f (suc n)
 keptIf (refused r) n c t f = f n
 
 -- The offers of a list of calls that were scheduled or held, each with its number, where n offers were numbered before.
@@ -58,19 +71,16 @@ keptFrom (offer c t ∷ ks) (o ∷ os) n = keptIf o n c t (keptFrom ks os)
 keptFrom (collect t ∷ ks) (o ∷ os) n = keptFrom ks os n
 keptFrom (lamp ∷ ks) (o ∷ os) n = keptFrom ks os n
 
--- Of the calls ks, which answered os and left the history h: the numbers of everything ever scheduled, followed by those of what is pending, rise strictly from 1 or more and are at most the count; the
--- count is that of the offers that were not refused, and is within the limit; these requests are the offers that were scheduled or held, each with its place among those not refused as its number; later calls keep
--- them, and add to their end; no scheduled action is dated before it was offered; offered dates never fall along the numbers, and none is after the history's date.
+-- Of the calls ks, which answered os and left the history h: everything ever scheduled, followed by what is pending, is ordered by its numbers, and so is what is left of it to play; the count is that of the
+-- offers that were not refused, and is within the limit; these requests are the offers that were scheduled or held, each with its place among those not refused as its number; later calls keep them, and add to their
+-- end.
 pub record Numbering (a : Automaton) (ks : List Call) (os : List Outcome) (h : History) : Type 0 where
-  pub rise : Rising 0 (numbersOf (requestsOf h))
-  pub counted : AtMost (h .numbered) (numbersOf (requestsOf h))
+  pub ordered : Ordered (a .loaded) (h .date) (h .numbered) (h .scheduled) (h .pending)
+  pub left-ordered : Ordered (a .loaded) (h .date) (h .numbered) (schedule h) (h .pending)
   pub count-is : h .numbered ≡ length (inputOf ks os)
   pub count-fits : h .numbered ≤ maxNumbered
   pub requests-are : requestsOf h ≡ keptFrom ks os 0
   pub keep : (ks′ : List Call) (os′ : List Outcome) (h′ : History) → HistoryOf a h ks′ os′ h′ → (v : List Request) × (requestsOf h′ ≡ requestsOf h ++ v)
-  pub none-early : NoneEarly (h .scheduled)
-  pub offered-rise : Monotone (a .loaded) (offeredOf (requestsOf h))
-  pub offered-past : AtMost (h .date) (offeredOf (requestsOf h))
 
 -- For every list of calls.
 unfoldable pub Numbers : Automaton → Type 0

@@ -3,6 +3,7 @@ mod calls;
 mod clocks;
 mod guarded;
 mod lamp;
+mod limits;
 mod liveness;
 mod lookup;
 mod optimum;
@@ -12,6 +13,7 @@ mod replay;
 mod sheets;
 
 fn main() {
+    limits::all();
     clocks::waits();
     clocks::resets();
     clocks::bounds();

@@ -35,3 +35,4 @@ pub mod Stuck
 pub mod Loads
 pub mod Replays
 pub mod Demand3
+pub mod BoxNumbers
