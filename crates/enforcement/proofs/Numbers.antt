@@ -90,6 +90,7 @@ ordered-more {b} {d} {n} {ss} {rs} r ss′ rs′ e k l h early x =
       offered-past = subst⁻¹ (AtMost (r .offered)) o (at-most-more d (r .offered) (r .offered) ts h (le-refl (r .offered)) (x .offered-past));
     }
 
+-- What rises above m rises above less.
 rising-from : (n m : ℕ) (is : List ℕ) → n ≤ m → Rising m is → Rising n is
 rising-from n m [] h r = tt
 rising-from n m (i ∷ is) h r = (omega (arith, r .0), r .1)

@@ -42,25 +42,25 @@ abbrev pub NoneEarly : List Slot → Type 0
 NoneEarly [] = Unit {0}
 NoneEarly (s ∷ ss) = (s .request .offered ≤ s .date) × NoneEarly ss
 
--- Of what is scheduled, followed by what is pending, with n offers numbered by the date d: the numbers rise strictly from 1 or more and are at most n; no scheduled action is dated before it was offered;
--- offered dates never fall along the numbers, from the date b on, and none is after d.
-pub record Ordered (b d n : ℕ) (ss : List Slot) (rs : List Request) : Type 0 where
+-- Of what is scheduled, followed by what is pending, with so many offers numbered by a date: the numbers rise strictly from 1 or more and are at most the count; no scheduled action is dated before it was
+-- offered; offered dates never fall along the numbers, from the start on, and none is after the date.
+pub record Ordered (start date count : ℕ) (ss : List Slot) (rs : List Request) : Type 0 where
   pub rise : Rising 0 (numbersOf (requestsOver ss rs))
-  pub counted : AtMost n (numbersOf (requestsOver ss rs))
+  pub counted : AtMost count (numbersOf (requestsOver ss rs))
   pub none-early : NoneEarly ss
-  pub offered-rise : Monotone b (offeredOf (requestsOver ss rs))
-  pub offered-past : AtMost d (offeredOf (requestsOver ss rs))
+  pub offered-rise : Monotone start (offeredOf (requestsOver ss rs))
+  pub offered-past : AtMost date (offeredOf (requestsOver ss rs))
 
--- By the outcome of an offer of c at t, where n offers were numbered before it, and f is of the calls after it: it is kept with the next number where it was scheduled or held; any other takes a
--- number too, but for a refused one.
+-- By the outcome of an offer of c at t, where n offers were numbered before it, and f is of the calls after it: it gets the next number where it was scheduled, held or dropped, and is kept with it unless it was
+-- dropped; a refused one gets none, and no offer has one of the other outcomes.
 abbrev pub keptIf : Outcome → ℕ → ℕ → ℕ → (ℕ → List Request) → List Request
 keptIf (scheduled m d) n c t f = record { action = c; number = suc n; offered = t } ∷ f (suc n)
 keptIf held n c t f = record { action = c; number = suc n; offered = t } ∷ f (suc n)
 keptIf dropped n c t f = f (suc n)
-keptIf (played d e i o) n c t f = f (suc n)
-keptIf nothing n c t f = f (suc n)
-keptIf lit n c t f = f (suc n)
-keptIf dark n c t f = f (suc n)
+keptIf (played d e i o) n c t f = f n
+keptIf nothing n c t f = f n
+keptIf lit n c t f = f n
+keptIf dark n c t f = f n
 keptIf (refused r) n c t f = f n
 
 -- The offers of a list of calls that were scheduled or held, each with its number, where n offers were numbered before.
@@ -72,8 +72,8 @@ keptFrom (collect t ∷ ks) (o ∷ os) n = keptFrom ks os n
 keptFrom (lamp ∷ ks) (o ∷ os) n = keptFrom ks os n
 
 -- Of the calls ks, which answered os and left the history h: everything ever scheduled, followed by what is pending, is ordered by its numbers, and so is what is left of it to play; the count is that of the
--- offers that were not refused, and is within the limit; these requests are the offers that were scheduled or held, each with its place among those not refused as its number; later calls keep them, and add to their
--- end.
+-- offers that were not refused, and is within the limit; these requests are the offers that were scheduled or held, each with its place among those scheduled, held or dropped as its number; later calls keep
+-- them, and add to their end.
 pub record Numbering (a : Automaton) (ks : List Call) (os : List Outcome) (h : History) : Type 0 where
   pub ordered : Ordered (a .loaded) (h .date) (h .numbered) (h .scheduled) (h .pending)
   pub left-ordered : Ordered (a .loaded) (h .date) (h .numbered) (schedule h) (h .pending)
