@@ -9,6 +9,15 @@ impl Random {
         Random { state: seed }
     }
 
+    /// Random numbers for a name and a seed. The name takes part, so that kinds do
+    /// not share theirs.
+    pub fn named(name: &str, seed: u64) -> Self {
+        let add = |salt: u64, byte| salt.wrapping_mul(257) + u64::from(byte);
+        let salt = name.bytes().fold(0, add);
+        let mixed = Random::new(salt).bits() ^ seed;
+        Random::new(Random::new(mixed).bits())
+    }
+
     /// The next 64 random bits.
     pub fn bits(&mut self) -> u64 {
         self.state = self.state.wrapping_add(0x9E37_79B9_7F4A_7C15);

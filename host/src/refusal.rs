@@ -1,4 +1,4 @@
-//! The reasons for which a load or a call refuses.
+//! The reasons for which a load, a call or a conversion of a log refuses.
 
 use std::fmt;
 
@@ -13,6 +13,9 @@ pub enum Refusal {
     I6,
     I7,
     I8,
+    I9,
+    I10,
+    I11,
     S1,
     S2,
     S3,
@@ -21,7 +24,7 @@ pub enum Refusal {
 }
 
 impl Refusal {
-    /// The reason's name in the desk program's lines.
+    /// The reason's name, as the desk program's lines and all messages have it.
     pub fn name(self) -> &'static str {
         match self {
             Refusal::I1 => "I-1",
@@ -32,6 +35,9 @@ impl Refusal {
             Refusal::I6 => "I-6",
             Refusal::I7 => "I-7",
             Refusal::I8 => "I-8",
+            Refusal::I9 => "I-9",
+            Refusal::I10 => "I-10",
+            Refusal::I11 => "I-11",
             Refusal::S1 => "S-1",
             Refusal::S2 => "S-2",
             Refusal::S3 => "S-3",

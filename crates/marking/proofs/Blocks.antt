@@ -25,10 +25,10 @@ module _ (s t : Bytes) where
   byte-behind i j e = ap (byte (s ++ t)) e ∙ getD-append-add s t i 0
 
   call-front : (i : ℕ) → i + 5 ≤ length s → callAt (s ++ t) i ≡ callAt s i
-  call-front i h = rw (byte-front i (omega arith), byte-front (i + 1) (omega arith), byte-front (i + 1 + 1) (omega arith), byte-front (i + 1 + 2) (omega arith), byte-front (i + 1 + 3) (omega arith))
+  call-front i h = rw (byte-front i (omega arith), byte-front (i + 1) (omega arith), byte-front (i + 1 + 1) (omega arith), byte-front (i + 1 + 2) (omega arith), byte-front (i + 1 + 2 + 1) (omega arith))
 
   call-behind : (i j : ℕ) → j ≡ length s + i → callAt (s ++ t) j ≡ callAt t i
-  call-behind i j e = rw (byte-behind i j e, byte-behind (i + 1) (j + 1) (omega arith), byte-behind (i + 1 + 1) (j + 1 + 1) (omega arith), byte-behind (i + 1 + 2) (j + 1 + 2) (omega arith), byte-behind (i + 1 + 3) (j + 1 + 3) (omega arith))
+  call-behind i j e = rw (byte-behind i j e, byte-behind (i + 1) (j + 1) (omega arith), byte-behind (i + 1 + 1) (j + 1 + 1) (omega arith), byte-behind (i + 1 + 2) (j + 1 + 2) (omega arith), byte-behind (i + 1 + 2 + 1) (j + 1 + 2 + 1) (omega arith))
 
   calls-front : (n i : ℕ) → i + 5 * n ≤ length s → callsFrom (s ++ t) n i ≡ callsFrom s n i
   unfolding callsFrom

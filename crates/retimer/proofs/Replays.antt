@@ -6,7 +6,7 @@ use Prim.Native.Nat.{ℕ, zero, suc, _+_, _*_, _/_, _%_, _≤_, _<_}
 use native.Mathlib.Omega.{arith}
 use lib.ListN.{length}
 use borrow.Author.Tests.{eq-eqb, ne-eqb}
-use Rattle.enforcement.specs.Automaton.{Bytes, byte, word}
+use Rattle.enforcement.specs.Automaton.{Bytes, byte}
 use Rattle.enforcement.specs.History.{Call, offer, collect, Outcome, nothing}
 use Rattle.retimer.specs.declared.limits.State.{State}
 use Rattle.retimer.specs.declared.limits.Monitor.{Monitor}
@@ -15,21 +15,19 @@ use Rattle.retimer.specs.declared.state.Answer.the-variants.{Held, Nothi
 use Rattle.retimer.specs.declared.state.Moved.{Moved}
 use Rattle.retimer.specs.declared.monitor.Answered.{Answered}
 use Rattle.retimer.specs.declared.sheet.Checked.{Checked}
+use Rattle.retimer.specs.Bytes.{doubleWord}
 use Rattle.retimer.specs.View.{viewOf, Valid}
 use Rattle.retimer.specs.Calls.{outcomeOf, MoveRight, CallRight, FreshRight}
 use Rattle.retimer.specs.Demand3.{Made, end, outcomesOf, CodeDemand3}
-use Rattle.retimer.specs.Replay.{dateAt, callAt, callsFrom, callsOf, lastOutcome, Followed}
+use Rattle.retimer.specs.Replay.{callAt, callsFrom, callsOf, lastOutcome, Followed}
 use Rattle.retimer.proofs.Demand3.{made-one-more, made-valid, code-demand-3}
 
 -- ---- One call
 
-pub date-is : (s : Bytes) (i a b : ℕ) → a ≡ word s i → b ≡ word s (i + 2) → a + 65536 * b ≡ dateAt s i
-date-is s i a b e f = let z : i + 2 + 1 ≡ i + 3 = omega arith in omega (arith, rw z at f)
-
-pub call-collect : {sheet live : List ℕ} {q : State} {r : Moved} (s : Bytes) (i t : ℕ) → byte s i ≡ 255 → t ≡ dateAt s (i + 1) → MoveRight sheet live q (collect t) r → MoveRight sheet live q (callAt s i) r
+pub call-collect : {sheet live : List ℕ} {q : State} {r : Moved} (s : Bytes) (i t : ℕ) → byte s i ≡ 255 → t ≡ doubleWord s (i + 1) → MoveRight sheet live q (collect t) r → MoveRight sheet live q (callAt s i) r
 call-collect s i t e f c = rw (eq-eqb (byte s i) 255 e, ← f) c
 
-pub call-offer : {sheet live : List ℕ} {q : State} {r : Moved} (s : Bytes) (i t : ℕ) → (byte s i ≡ 255 → ⊥) → t ≡ dateAt s (i + 1) → MoveRight sheet live q (offer (byte s i) t) r → MoveRight sheet live q (callAt s i) r
+pub call-offer : {sheet live : List ℕ} {q : State} {r : Moved} (s : Bytes) (i t : ℕ) → (byte s i ≡ 255 → ⊥) → t ≡ doubleWord s (i + 1) → MoveRight sheet live q (offer (byte s i) t) r → MoveRight sheet live q (callAt s i) r
 call-offer s i t e f c = rw (ne-eqb (byte s i) 255 e, ← f) c
 
 -- ---- The calls so far

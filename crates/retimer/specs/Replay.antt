@@ -2,7 +2,7 @@
 use mathlib.Core.Path.{_≡_}
 use mathlib.Core.Bool.{cond}
 use mathlib.Core.List.{List, [], _∷_}
-use Prim.Native.Nat.{ℕ, zero, suc, _+_, _*_, _/_}
+use Prim.Native.Nat.{ℕ, zero, suc, _+_, _/_}
 use lib.Dec.{eqb}
 use lib.ListN.{length}
 use Rattle.enforcement.specs.Automaton.{Bytes, byte}
@@ -11,17 +11,14 @@ use Rattle.enforcement.specs.Loading.{Loads, check}
 use Rattle.retimer.specs.declared.state.Answer.{Answer}
 use Rattle.retimer.specs.declared.state.Answer.the-variants.{Held, Nothing}
 use Rattle.retimer.specs.declared.replay.Replayed.{Replayed}
+use Rattle.retimer.specs.Bytes.{doubleWord}
 use Rattle.retimer.specs.Checked.{checkedOf}
 use Rattle.retimer.specs.Calls.{outcomeOf, noMonitor}
 use Rattle.retimer.specs.Demand3.{outcomesOf, CodeDemand3}
 
--- A date in four bytes, low byte first.
-abbrev pub dateAt : Bytes → ℕ → ℕ
-dateAt s i = byte s i + 256 * byte s (i + 1) + 65536 * byte s (i + 2) + 16777216 * byte s (i + 3)
-
 -- A call in five bytes: an action, or 255 for a collection, and a date.
 abbrev pub callAt : Bytes → ℕ → Call
-callAt s i = cond (eqb (byte s i) 255) (collect (dateAt s (i + 1))) (offer (byte s i) (dateAt s (i + 1)))
+callAt s i = cond (eqb (byte s i) 255) (collect (doubleWord s (i + 1))) (offer (byte s i) (doubleWord s (i + 1)))
 
 unfoldable pub callsFrom : Bytes → ℕ → ℕ → List Call
 callsFrom s zero i = []

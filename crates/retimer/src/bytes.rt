@@ -1,8 +1,9 @@
 // Numbers read from bytes.
 ghost use mathlib.Core.Path.{_≡_};
-ghost use Prim.Native.Nat.{_+_, _<_};
+ghost use Prim.Native.Nat.{_+_, _≤_, _<_};
 ghost use lib.ListN.{length};
 ghost use Rattle.enforcement.specs.Automaton.{word};
+ghost use Rattle.retimer.specs.Bytes.{doubleWord};
 
 // A byte as an index.
 pub fn wide(b: u8) -> usize
@@ -17,4 +18,14 @@ pub fn word_at(s: &[u8], i: usize) -> usize
     ensures { λ r. ⌜ (r ≡ word (now (s .entry)) i) × (r < 65536) ⌝ }
 {
     wide(s[i]) + 256 * wide(s[i + 1])
+}
+
+// Four bytes, low byte first.
+pub fn double_word_at(s: &[u8], i: usize) -> u32
+    requires { ⌜ i + 4 ≤ length (now s) ⌝ }
+    ensures { λ r. ⌜ r ≡ doubleWord (now (s .entry)) i ⌝ }
+{
+    let low = word_at(s, i) as u32;
+    let high = word_at(s, i + 2) as u32;
+    low + 65536 * high
 }

@@ -5,12 +5,11 @@ use crate::limits::State;
 use crate::sheet::Checked;
 use crate::state::Answer;
 use crate::state::Moved;
-ghost use mathlib.Core.Path.{_≡_};
 ghost use Prim.Native.Nat.{_+_, _≤_};
 ghost use lib.ListN.{length};
 ghost use Rattle.retimer.specs.View.{StateValid};
 ghost use Rattle.retimer.specs.Calls.{MoveRight};
-ghost use Rattle.retimer.specs.Replay.{dateAt, callAt, ReplayRight};
+ghost use Rattle.retimer.specs.Replay.{callAt, ReplayRight};
 
 // The check's answer, the last box, and the last answer; "none" where there was no call. After a refused sheet there is no box.
 pub struct Replayed {
@@ -19,22 +18,12 @@ pub struct Replayed {
     pub answer: Answer,
 }
 
-// A date in four bytes, low byte first.
-fn date_at(s: &[u8], i: usize) -> u32
-    requires { ⌜ i + 4 ≤ length (now s) ⌝ }
-    ensures { λ t. ⌜ t ≡ dateAt (now (s .entry)) i ⌝ }
-{
-    let low = bytes::word_at(s, i) as u32;
-    let high = bytes::word_at(s, i + 2) as u32;
-    low + 65536 * high
-}
-
 // The call in five bytes from i on, on the state of a box with the sheet and its table.
 pub fn call_at<'a>(sheet: &'a [u8], live: &'a [u8], state: State, calls: &[u8], i: usize) -> Moved
     requires { ⌜ (StateValid (now sheet) (now live) state) × (i + 5 ≤ length (now calls)) ⌝ }
     ensures { λ r. ⌜ MoveRight (now (sheet .entry)) (now (live .entry)) state (callAt (now (calls .entry)) i) r ⌝ }
 {
-    let t = date_at(calls, i + 1);
+    let t = bytes::double_word_at(calls, i + 1);
     let c = calls[i];
     if c == 255 {
         return state.collect(sheet, live, t);

@@ -3,27 +3,20 @@
 
 use host::compare::{compare, Stop};
 use host::generate::{kind_named, Kind, KINDS, ONCE};
+use host::seeds::Seeds;
 use std::ffi::OsString;
 use std::path::Path;
 use std::process::ExitCode;
 
 const USAGE: &str = "usage: compare PROGRAM SEEDS [FIRST_SEED [KIND]..]";
 
-/// What to compare.
-struct Task<'a> {
-    program: &'a Path,
-    seeds: u64,
-    first: u64,
-    kinds: Vec<&'static Kind>,
-}
-
 fn main() -> ExitCode {
     let arguments: Vec<OsString> = std::env::args_os().skip(1).collect();
-    let Some(task) = parse(&arguments) else {
+    let Some((program, task)) = parse(&arguments) else {
         eprintln!("{USAGE}\nthe kinds are those of `generate --list`");
         return ExitCode::from(2);
     };
-    match compare(task.program, task.kinds, task.first, task.seeds) {
+    match compare(program, task.kinds, task.first, task.count) {
         Ok(summary) => {
             print!("{summary}");
             ExitCode::SUCCESS
@@ -37,36 +30,20 @@ fn main() -> ExitCode {
             ExitCode::FAILURE
         }
         Err(Stop::NotRun(error)) => {
-            let program = task.program.to_string_lossy();
+            let program = program.to_string_lossy();
             eprintln!("compare: {program:?} cannot be run: {error}\n{USAGE}");
             ExitCode::from(2)
         }
     }
 }
 
-/// The task, or nothing if the arguments are wrong; no kind means every kind.
-fn parse(arguments: &[OsString]) -> Option<Task<'_>> {
-    let [program, seeds, rest @ ..] = arguments else {
-        return None;
-    };
-    let (first, names) = match rest {
-        [] => (0, rest),
-        [first, names @ ..] => (number(first)?, names),
-    };
-    let named = names.iter().map(|name| kind_named(name.to_str()?));
-    let mut kinds: Vec<&Kind> = named.collect::<Option<_>>()?;
-    if kinds.is_empty() {
-        kinds.extend(KINDS);
-        kinds.extend(ONCE);
+/// The program and what to go over, or nothing if the arguments are wrong.
+fn parse(arguments: &[OsString]) -> Option<(&Path, Seeds<&'static Kind>)> {
+    let (program, words) = arguments.split_first()?;
+    let mut task = Seeds::parse(words, kind_named)?;
+    if task.kinds.is_empty() {
+        task.kinds.extend(KINDS);
+        task.kinds.extend(ONCE);
     }
-    Some(Task {
-        program: Path::new(program),
-        seeds: number(seeds)?,
-        first,
-        kinds,
-    })
-}
-
-fn number(argument: &OsString) -> Option<u64> {
-    argument.to_str()?.parse().ok()
+    Some((Path::new(program), task))
 }

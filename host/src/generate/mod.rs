@@ -32,11 +32,7 @@ impl Kind {
 
     /// Random numbers for this kind and a seed.
     pub fn random(&self, seed: u64) -> Random {
-        // The name takes part, so that kinds do not share their random numbers.
-        let name = self.name.bytes();
-        let salt = name.fold(0u64, |salt, byte| salt.wrapping_mul(257) + u64::from(byte));
-        let mixed = Random::new(salt).bits() ^ seed;
-        Random::new(Random::new(mixed).bits())
+        Random::named(self.name, seed)
     }
 }
 
