@@ -44,7 +44,8 @@ accepted n m ds p =
     let b = both (eqb (n % 5) 0) (eqb m n) (a .0) in
     record { whole = eqb-true (n % 5) 0 (b .0); sized = eqb-true m n (b .1); sound = a .1 }
 
-pub never : {q : Refusal} (o : Outcome) → o ≡ refused q → o ≡ converted → ⊥
+-- A refusal is no conversion.
+never : {q : Refusal} (o : Outcome) → o ≡ refused q → o ≡ converted → ⊥
 never o p e = let z : _≡_ {A = ℕ} 0 1 = cc in omega arith
 
 -- A refusal leaves the output, and what is converted is written.

@@ -93,9 +93,9 @@ module _ (n m : ℕ) (ds : List ℕ) where
       (λ u. from-right es (suc k) e rest here (clean-next k c early (not-falling k d e b here (leb-true d e u)))))
 
   -- The lengths, and then all records.
-  not-sized : (a b : Bool) → (a ≡ false → n % 5 ≡ 0 → ⊥) → (b ≡ false → m ≡ n → ⊥) → a && b ≡ false → (n % 5 ≡ 0 → ⊥) ⊎ (m ≡ n → ⊥)
-  not-sized true b f g e = inr (g e)
-  not-sized false b f g e = inl (f refl)
+  one-length-wrong : (a b : Bool) → (a ≡ false → n % 5 ≡ 0 → ⊥) → (b ≡ false → m ≡ n → ⊥) → a && b ≡ false → (n % 5 ≡ 0 → ⊥) ⊎ (m ≡ n → ⊥)
+  one-length-wrong true b f g e = inr (g e)
+  one-length-wrong false b f g e = inl (f refl)
 
   clean-first : n % 5 ≡ 0 → m ≡ n → Clean 0
   unfolding Clean Holds
@@ -108,7 +108,7 @@ module _ (n m : ℕ) (ds : List ℕ) where
   unfolding check Right Before Holds
   all-right =
       right-unless (eqb (n % 5) 0 && eqb m n) I-9 (checkFrom 0 0 ds)
-      (λ t. record { holds = not-sized (eqb (n % 5) 0) (eqb m n) (eqb-false (n % 5) 0) (eqb-false m n) t; none-earlier = λ q l x. omega arith })
+      (λ t. record { holds = one-length-wrong (eqb (n % 5) 0) (eqb m n) (eqb-false (n % 5) 0) (eqb-false m n) t; none-earlier = λ q l x. omega arith })
       (λ t. let b = both (eqb (n % 5) 0) (eqb m n) t in from-right ds 0 0 refl refl (clean-first (eqb-true (n % 5) 0 (b .0)) (eqb-true m n (b .1))))
 
   -- There is one answer: the ranks tell the reasons apart.

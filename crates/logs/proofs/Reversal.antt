@@ -65,13 +65,13 @@ pub gaps-chronological : (s : Bytes) (m : ℕ) → answer Gaps s m ≡ converted
 gaps-chronological s m p = dates-chronological (output Gaps s) m (back-accepted Gaps s m p)
 
 -- I-11 never comes from gaps.
-not-falling : (n m : ℕ) (ds : List ℕ) (k : ℕ) → Monotone 0 ds → Holds n m ds (I-11 k) → ⊥
+none-falls : (n m : ℕ) (ds : List ℕ) (k : ℕ) → Monotone 0 ds → Holds n m ds (I-11 k) → ⊥
 unfolding Holds
-not-falling n m ds zero h x = x
-not-falling n m ds (suc k) h x = omega (arith, rise-at ds 0 k h (x .0), x .1)
+none-falls n m ds zero h x = x
+none-falls n m ds (suc k) h x = omega (arith, rise-at ds 0 k h (x .0), x .1)
 
 pub gaps-never-fall : (s : Bytes) (m k : ℕ) → answer Gaps s m ≡ refused (I-11 k) → ⊥
-gaps-never-fall s m k p = not-falling (length s) m (datesIn Gaps s) k (gaps-rise 0 (recordsOf s)) (check-right (length s) m (datesIn Gaps s) .refuses (I-11 k) .0 p .holds)
+gaps-never-fall s m k p = none-falls (length s) m (datesIn Gaps s) k (gaps-rise 0 (recordsOf s)) (check-right (length s) m (datesIn Gaps s) .refuses (I-11 k) .0 p .holds)
 
 -- Two conversions, one after the other, by any function that promises this of its output: the second is accepted too, and writes what the first had read.
 pub there-and-back : {f : Format} {s before after last again : Bytes} → AllBytes s → answer f s (length before) ≡ converted → OutputRight f s before after → length last ≡ length s → OutputRight (other f) after last again → (answer (other f) after (length last) ≡ converted) × (again ≡ s)
