@@ -29,7 +29,8 @@ pub struct Interval {
 }
 
 impl Interval {
-    fn from_bytes(low: u8, high: u8) -> Self {
+    /// The interval that two bytes stand for.
+    pub fn from_bytes(low: u8, high: u8) -> Self {
         let high = (high != UNBOUNDED).then_some(high);
         Interval { low, high }
     }

@@ -3,15 +3,12 @@
 
 mod common;
 
-use common::{bare_answer, first_call};
+use common::{automata, bare_answer, first_call, SEEDS};
 use host::desk::{self, CALL, COLLECTION};
 use host::generate::{kind_named, BLOCK, KINDS};
 use host::monitor::{Answer, Monitor};
 use host::sheet::{self, Automaton};
 use host::tally::Tally;
-
-/// Seeds per kind over which occurrences are counted.
-const SEEDS: u64 = 400;
 
 /// Seeds per kind, from 0 on, that the gate compares.
 const GATE: u64 = 300;
@@ -33,18 +30,6 @@ fn require(kind: &str, least: &[(&str, u64)]) {
         assert!(found >= *count, "{kind}: {name} only {found} times");
     }
     assert_eq!(tally.count("other"), 0);
-}
-
-/// The automata of a kind's inputs, as far as they load.
-fn automata(name: &str) -> Vec<(usize, Automaton)> {
-    let kind = kind_named(name).expect("the kind exists");
-    let inputs = (0..SEEDS).map(|seed| kind.input(seed));
-    let load = |input: Vec<u8>| {
-        let end = first_call(&input);
-        let automaton = sheet::read(input.get(2..end)?).ok()?;
-        Some((end - 2, automaton))
-    };
-    inputs.filter_map(load).collect()
 }
 
 #[test]
@@ -87,6 +72,22 @@ fn deadlines() {
         ("lamp 1", 1000),
     ];
     require("deadlines", &least);
+}
+
+#[test]
+fn bound_edges() {
+    let least = [
+        ("sheet loaded", SEEDS),
+        ("scheduled 1", 4000),
+        ("scheduled 2 to 16", 350),
+        ("held", 600),
+        ("dropped", 1200),
+        ("played", 4000),
+        ("none", 1500),
+        ("lamp 0", 10000),
+        ("lamp 1", 900),
+    ];
+    require("bound_edges", &least);
 }
 
 #[test]
@@ -406,6 +407,7 @@ fn numbers_and_dates_of_offers_show() {
         ("one_clock", [500, 250, 80, 200]),
         ("two_clocks", [600, 250, 100, 200]),
         ("deadlines", [600, 350, 30, 150]),
+        ("bound_edges", [700, 180, 250, 0]),
         ("long_pending", [2000, 1500, 150, 900]),
         ("long_two_clocks", [2000, 1500, 150, 1000]),
         ("dated_lists", [3500, 2500, 0, 0]),

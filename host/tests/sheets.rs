@@ -1,11 +1,14 @@
-//! The reasons against a sheet, on both sides of every edge.
+//! The reasons against a sheet, on both sides of every edge, and the test of a
+//! reading against bounds.
 
 mod common;
 
 use common::sheet_of;
 use host::course::{A, B};
 use host::refusal::Refusal;
-use host::sheet;
+use host::runs::Configuration;
+use host::sets::ConfigurationSet;
+use host::sheet::{self, Automaton, Interval};
 
 /// The reason against a sheet.
 fn reason(bytes: &[u8]) -> Option<Refusal> {
@@ -379,4 +382,69 @@ fn fields_are_read() {
     assert_eq!((rule.guards[0].low, rule.guards[0].high), (10, Some(15)));
     assert_eq!((rule.guards[1].low, rule.guards[1].high), (0, None));
     assert!(automaton.outgoing[2].is_empty());
+}
+
+/// All pairs of a low and a high byte, also those that no load accepts.
+fn all_bounds() -> impl Iterator<Item = [u8; 2]> {
+    (0..=255).flat_map(|low| (0..=255).map(move |high| [low, high]))
+}
+
+/// The cases of document 02's bound test, the first that fits.
+#[test]
+fn readings_within_bounds() {
+    let mut cases = [0; 4];
+    for [low, high] in all_bounds() {
+        let interval = Interval::from_bytes(low, high);
+        let (low, high) = (u32::from(low), u32::from(high));
+        let same = |says: &dyn Fn(u32) -> bool| {
+            let plain = |reading| low <= reading && (high == 255 || reading <= high);
+            (0..=300).all(|it| interval.contains(it) == says(it) && says(it) == plain(it))
+        };
+        let (case, is_same) = if high == 255 {
+            (0, same(&|at_least| at_least >= low))
+        } else if low == high {
+            (1, same(&|exactly| exactly == low))
+        } else if low == 0 {
+            (2, same(&|at_most| at_most <= high))
+        } else {
+            (3, same(&|between| (low..=high).contains(&between)))
+        };
+        assert!(is_same, "{low} to {high}");
+        cases[case] += 1;
+    }
+    assert_eq!(cases, [256, 255, 254, 64_771]);
+}
+
+/// Whether a set in which a clock has a reading can play the only action.
+fn plays(automaton: &Automaton, clock: usize, reading: u32) -> bool {
+    let mut valuation = [7; 2];
+    valuation[clock] = reading;
+    let location = 0;
+    let set = ConfigurationSet::single(&Configuration {
+        location,
+        valuation,
+    });
+    let mut played = ConfigurationSet::empty();
+    set.play(automaton, 0, &mut played);
+    played.accepts(automaton)
+}
+
+/// Sets cap the readings and have the bounds as bits; they say the same.
+#[test]
+fn sets_within_bounds() {
+    let mut loaded = 0;
+    for [low, high] in all_bounds() {
+        let interval = Interval::from_bytes(low, high);
+        let rules = [[0, 0, 0, low, high, 0, 255], [0, 0, 0, 0, 255, low, high]];
+        let sheets = rules.map(|rule| sheet::read(&sheet_of([1, 2, 1, 0], 1, &[&[rule]])));
+        let [Ok(first), Ok(second)] = sheets else {
+            continue;
+        };
+        loaded += 1;
+        assert!((0..=300).all(|reading| {
+            let expected = interval.contains(reading);
+            plays(&first, 0, reading) == expected && plays(&second, 1, reading) == expected
+        }));
+    }
+    assert_eq!(loaded, 31 * 32 / 2 + 31);
 }

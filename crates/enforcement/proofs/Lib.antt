@@ -1,4 +1,5 @@
 pub mod Tests
+pub mod Comparisons
 pub mod Bits
 pub mod Pairs
 pub mod Fitting

@@ -14,14 +14,12 @@ use Rattle.enforcement.specs.Automaton.{Bytes, automaton, locations, Tra
 use Rattle.enforcement.specs.TimedWord.{Configuration, fire, fireFirst, step}
 use Rattle.enforcement.specs.Reason.{I-6}
 use Rattle.enforcement.specs.Loading.{Bounds, Fits, AllFit, Overlap, OverlapsOne, OverlapIn, Holds, overlap, overlapsNone, disjoint, disjointOver, Bounded, Deterministic}
-use Rattle.enforcement.proofs.Tests.{Tests, Finds, true-false, T-tests, leb-tests, eqb-tests, both-tests, either-tests, both-finds, tests-same, finds-same, finds-opposite, proved, test-true, shown}
+use Rattle.enforcement.proofs.Tests.{Tests, Finds, true-false, T-tests, leb-tests, eqb-tests, both-tests, both-finds, tests-same, finds-same, finds-opposite, proved, test-true, shown}
+use Rattle.enforcement.proofs.Comparisons.{within-tests}
 use Rattle.enforcement.proofs.Pairs.{transitions-none}
 use Rattle.enforcement.proofs.Fitting.{all-bounded}
 
 -- ---- The test
-
-within-tests : (low high x : ℕ) → Tests (within low high x) ((low ≤ x) × ((high ≡ 255) ⊎ (x ≤ high)))
-within-tests low high x = both-tests (leb-tests low x) (either-tests (eqb-tests high 255) (leb-tests x high))
 
 -- Some reading lies within both bounds.
 abbrev Meet : ℕ → ℕ → ℕ → ℕ → Type 0

@@ -1,18 +1,20 @@
 -- Saturated valuations: how ticks move them, and that an automaton's steps do not see past saturation.
 use mathlib.Core.Path.{_≡_, refl, ap, ap₂, sym, _∙_}
-use mathlib.Core.Bool.{Bool, true, false, cond, _&&_, _||_}
+use mathlib.Core.Bool.{Bool, true, false, cond, _&&_}
 use mathlib.Core.List.{List, [], _∷_}
 use mathlib.Core.Option.{Option, none, some}
 use mathlib.Core.Logic.{_⊎_, inl, inr}
 use Prim.Native.Nat.{ℕ, suc, _+_, _-_, _≤_, _<_, min}
 use native.Mathlib.Omega.{arith}
-use lib.Dec.{leb, eqb}
-use borrow.Author.Tests.{leb-true, leb-false, le-leb, eqb-true, eq-eqb}
+use lib.Dec.{eqb}
+use borrow.Author.Tests.{eqb-true}
 use Rattle.enforcement.specs.Limits.{maxBound}
 use Rattle.enforcement.specs.Automaton.{Automaton, Bytes, Transition, transitions, within, enabled, bit, clocks}
 use Rattle.enforcement.specs.TimedWord.{Configuration, elapse, fire, fireFirst, step}
 use Rattle.enforcement.specs.Loading.{Bounds, OneClock, Fits, AllFit, Bounded}
 use Rattle.enforcement.specs.Model.{top, saturated, oneClock, advance, headroom}
+use Rattle.enforcement.proofs.Tests.{agree}
+use Rattle.enforcement.proofs.Comparisons.{within-right}
 
 -- Steps by actions, and what may be said of the end of a run.
 abbrev pub Steps : Type 0
@@ -79,25 +81,23 @@ Saturates one st = (c : ℕ) (p : Configuration) → st c (saturated one p) ≡ 
 
 -- ---- The steps of an automaton
 
-same-test : (a b c d : ℕ) → (a ≤ b → c ≤ d) → (c ≤ d → a ≤ b) → leb a b ≡ leb c d
-same-test a b c d f g = go (leb a b) (leb c d) refl refl
-  where
-    go : (u v : Bool) → leb a b ≡ u → leb c d ≡ v → u ≡ v
-    go true true p q = refl
-    go false false p q = refl
-    go true false p q = absurd (let h : c ≤ d = f (leb-true a b p) in omega (arith, leb-false c d q))
-    go false true p q = absurd (let h : a ≤ b = g (leb-true c d q) in omega (arith, leb-false a b p))
-
 within-saturated : (low high x : ℕ) → Bounds low high → within low high (min x top) ≡ within low high x
-within-saturated low high x h = ap₂ _&&_ (same-test low (min x top) low x (λ k. omega arith) (λ k. omega (arith, h .low-fits))) (go (h .high-fits))
+within-saturated low high x h =
+    let w = within-right low high (min x top) in
+    agree (λ e. let l = w .0 e in (omega (arith, l .0), up (h .high-fits) (l .1)), λ l. w .1 (omega (arith, l .0, h .low-fits), down (l .1))) (within-right low high x)
   where
-    go : (high ≤ maxBound) ⊎ (high ≡ 255) → (eqb high 255 || leb (min x top) high) ≡ (eqb high 255 || leb x high)
-    go (inl k) = ap (λ (b : Bool). eqb high 255 || b) (same-test (min x top) high x high (λ j. omega arith) (λ j. omega arith))
-    go (inr e) = rw (eq-eqb high 255 e)
+    up : (high ≤ maxBound) ⊎ (high ≡ 255) → (high ≡ 255) ⊎ (min x top ≤ high) → (high ≡ 255) ⊎ (x ≤ high)
+    up k (inl e) = inl e
+    up (inl k) (inr l) = inr (omega arith)
+    up (inr e) (inr l) = inl e
+
+    down : (high ≡ 255) ⊎ (x ≤ high) → (high ≡ 255) ⊎ (min x top ≤ high)
+    down (inl e) = inl e
+    down (inr l) = inr (omega arith)
 
 -- The bounds 0 and 255 hold of every reading.
 within-any : (low high x : ℕ) → low ≡ 0 → high ≡ 255 → within low high x ≡ true
-within-any low high x e f = ap₂ _&&_ (le-leb low x (omega arith)) (ap (λ (b : Bool). b || leb x high) (eq-eqb high 255 f))
+within-any low high x e f = within-right low high x .1 (omega arith, inl f)
 
 module _ (s : Bytes) (one : Bool) (one-is : one ≡ true → clocks s ≡ 1) where
   -- A second clock that the automaton does not have is not read.

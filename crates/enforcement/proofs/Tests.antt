@@ -2,7 +2,7 @@
 -- Assumes nothing.
 use mathlib.Core.Path.{_≡_, refl, sym, subst}
 use mathlib.Core.Bool.{Bool, true, false, _&&_, _||_, not}
-use mathlib.Core.Logic.{_⊎_, inl, inr}
+use mathlib.Core.Logic.{_⊎_, inl, inr, _↔_}
 use Prim.Native.Nat.{ℕ, suc, _≤_, _<_}
 use native.Mathlib.Omega.{arith}
 use lib.Dec.{T, leb, ltb, eqb}
@@ -30,6 +30,11 @@ T-true {b} h = go b h
 
 pub true-T : {b : Bool} → b ≡ true → T b
 true-T e = subst T (sym e) tt
+
+-- A test that can't be true is false.
+pub none-true : (b : Bool) → (b ≡ true → ⊥) → b ≡ false
+none-true true h = absurd (h refl)
+none-true false h = refl
 
 -- ---- One test
 
@@ -116,6 +121,9 @@ module _ {b : Bool} {P : Type 0} where
   pub shown : Tests b P → P → T b
   shown p h = true-T (test-true p h)
 
+  pub exact : Tests b P → (b ≡ true) ↔ P
+  exact p = (p .passes, test-true p)
+
   -- What a test decides holds if it cannot fail.
   pub sure : Tests b P → ((P → ⊥) → ⊥) → P
   sure p h = go b p
@@ -123,6 +131,14 @@ module _ {b : Bool} {P : Type 0} where
       go : (c : Bool) → Tests c P → P
       go true u = u .passes refl
       go false u = absurd (h (u .fails refl))
+
+-- Two Booleans that are true exactly when one statement holds.
+pub agree : {a b : Bool} {P : Type 0} → (a ≡ true) ↔ P → (b ≡ true) ↔ P → a ≡ b
+agree {a} {b} {P} p q = go a p
+  where
+    go : (c : Bool) → (c ≡ true) ↔ P → c ≡ b
+    go true u = sym (q .1 (u .0 refl))
+    go false u = sym (none-true b (λ e. true-false (u .1 (q .0 e)) refl))
 
 -- A statement that is asked for only where another holds.
 pub implies-tests : {a b : Bool} {P Q : Type 0} → Tests a P → Tests b Q → Tests (not a || b) (P → Q)

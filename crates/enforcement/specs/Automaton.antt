@@ -1,8 +1,10 @@
 -- The timed automaton that a sheet's bytes encode (document 01, "Bytes of a sheet").
 -- The accessors say something of bytes that no load accepts too; nothing rests on that.
+use mathlib.Core.Path.{_≡_}
 use mathlib.Core.Bool.{Bool, true, false, _&&_, _||_}
 use mathlib.Core.List.{List, [], _∷_, _++_}
-use Prim.Native.Nat.{ℕ, zero, suc, _+_, _*_, _/_, _%_, _^_}
+use mathlib.Core.Logic.{_⊎_}
+use Prim.Native.Nat.{ℕ, zero, suc, _+_, _*_, _/_, _%_, _^_, _≤_}
 use lib.Dec.{leb, ltb, eqb}
 use lib.ListN.{getD}
 
@@ -83,6 +85,10 @@ abbrev pub allTransitions : Bytes → List Transition
 allTransitions s = transitionsOver s (locations s) 0
 
 -- A reading lies from low to high, both ends included; the high 255 is no upper bound.
+abbrev pub Lies : ℕ → ℕ → ℕ → Type 0
+Lies low high x = (low ≤ x) × ((high ≡ 255) ⊎ (x ≤ high))
+
+-- The test of that, of any numbers (`within-right`): definitions are executed, and this decides there.
 abbrev pub within : ℕ → ℕ → ℕ → Bool
 within low high x = leb low x && (eqb high 255 || leb x high)
 

@@ -1,5 +1,6 @@
 pub mod Limits
 pub mod Automaton
+pub mod Comparison
 pub mod TimedWord
 pub mod Reason
 pub mod Loading

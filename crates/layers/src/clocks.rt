@@ -85,20 +85,34 @@ fn within(low: u8, high: u8, x: u8) {
     print::truth(clocks::within(low, high, x));
 }
 
-// Both ends are included; 255 is no upper bound.
+// Readings around both ends of the bounds, and 0, 30, 31 and 255.
+fn ends(low: u8, high: u8) {
+    if 0 < low {
+        within(low, high, low - 1);
+    }
+    within(low, high, low);
+    within(low, high, high);
+    if high < 255 {
+        within(low, high, high + 1);
+    }
+    within(low, high, 0);
+    within(low, high, 30);
+    within(low, high, 31);
+    within(low, high, 255);
+}
+
+// Both ends are included; 255 is no upper bound. Three of each case; the last of each is of bounds that no load accepts.
 pub fn bounds() {
-    within(0, 0, 0);
-    within(0, 0, 1);
-    within(5, 10, 4);
-    within(5, 10, 5);
-    within(5, 10, 10);
-    within(5, 10, 11);
-    within(0, 30, 30);
-    within(0, 30, 31);
-    within(30, 30, 29);
-    within(30, 30, 30);
-    within(30, 30, 31);
-    within(30, 255, 29);
-    within(30, 255, 31);
-    within(0, 255, 31);
+    ends(0, 255);
+    ends(30, 255);
+    ends(255, 255);
+    ends(0, 0);
+    ends(30, 30);
+    ends(254, 254);
+    ends(0, 10);
+    ends(0, 30);
+    ends(0, 254);
+    ends(5, 10);
+    ends(1, 30);
+    ends(10, 5);
 }

@@ -1,6 +1,7 @@
 // Runs each layer of the retimer on the course sheets and at the edges. What is expected stands in the file `stdout`, written from document 01.
 mod calls;
 mod clocks;
+mod comparison;
 mod guarded;
 mod lamp;
 mod limits;
@@ -16,6 +17,9 @@ fn main() {
     limits::all();
     clocks::waits();
     clocks::resets();
+    comparison::cases();
+    comparison::ends();
+    comparison::readings();
     clocks::bounds();
     sheets::course();
     sheets::fronts();

@@ -8,7 +8,8 @@ use Rattle.enforcement.specs.Limits.{maxBound}
 use Rattle.enforcement.specs.Automaton.{Transition, within, enabled}
 use Rattle.enforcement.specs.Loading.{Bounds}
 use Rattle.enforcement.specs.Model.{top}
-use Rattle.enforcement.proofs.Tests.{Tests, leb-tests, eqb-tests, both-tests, either-tests, tests-same}
+use Rattle.enforcement.proofs.Tests.{Tests, both-tests, tests-same}
+use Rattle.enforcement.proofs.Comparisons.{within-tests}
 use Rattle.retimer.specs.Waits.{saturation, firstWait, endOf, endWait}
 
 -- ---- One clock
@@ -17,7 +18,7 @@ use Rattle.retimer.specs.Waits.{saturation, firstWait, endOf, endWait}
 within-wait : (low high x u : ℕ) → Bounds low high → x ≤ top → u ≤ top → Tests (within low high (min (x + u) top)) ((low ≤ x + u) × (x + u ≤ high))
 within-wait low high x u b h k =
     tests-same (λ w. (omega (arith, w .0), go (b .high-fits) (w .1))) (λ w. (omega (arith, w .0, b .low-fits), back (w .1)))
-    (both-tests (leb-tests low (min (x + u) top)) (either-tests (eqb-tests high 255) (leb-tests (min (x + u) top) high)))
+    (within-tests low high (min (x + u) top))
   where
     go : (high ≤ maxBound) ⊎ (high ≡ 255) → (high ≡ 255) ⊎ (min (x + u) top ≤ high) → x + u ≤ high
     go (inl f) (inl e) = omega arith

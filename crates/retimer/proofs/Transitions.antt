@@ -8,7 +8,7 @@ use Prim.Native.Nat.{ℕ, suc, _+_, _*_, _-_, _≤_, _<_, _/_, _%_}
 use native.Mathlib.Omega.{arith}
 use lib.ListN.{length}
 use borrow.Author.Tests.{eq-eqb, ne-eqb}
-use Rattle.enforcement.specs.Automaton.{Bytes, Transition, automaton, byte, word, locations, offset, size, transitionAt, transitionsFrom, within}
+use Rattle.enforcement.specs.Automaton.{Bytes, Transition, automaton, byte, word, locations, offset, size, transitionAt, transitionsFrom, enabled}
 use Rattle.enforcement.specs.Loading.{Loads, AllFit, Bounded}
 use Rattle.enforcement.specs.TimedWord.{Configuration, fire, fireFirst, step}
 use Rattle.enforcement.proofs.Pairs.{transitions-known, layout-after, layout-inside}
@@ -24,13 +24,9 @@ module _ (s : Bytes) (p c x y : ℕ) where
   unfolding applies
   applies-other h = simp (ne-eqb _ _ h)
 
-  pub applies-not : byte s p ≡ c → within (byte s (p + 3)) (byte s (p + 4)) x ≡ false → false ≡ applies s p c x y
+  pub applies-own : byte s p ≡ c → enabled (transitionAt s p) x y ≡ applies s p c x y
   unfolding applies
-  applies-not h e = rw (eq-eqb (byte s p) c h, e) refl
-
-  pub applies-then : byte s p ≡ c → within (byte s (p + 3)) (byte s (p + 4)) x ≡ true → within (byte s (p + 5)) (byte s (p + 6)) y ≡ applies s p c x y
-  unfolding applies
-  applies-then h e = rw (eq-eqb (byte s p) c h, e) refl
+  applies-own h = simp (eq-eqb _ _ h)
 
 -- ---- The loop over places
 

@@ -1,31 +1,17 @@
--- Laws of the readings: waiting, resets, the bound test, and the configurations that they make.
+-- Laws of the readings: waiting, resets, and the configurations that they make.
 -- Assumes nothing.
 use mathlib.Core.Path.{_≡_, refl}
-use mathlib.Core.Bool.{Bool, true, false, cond, _||_}
+use mathlib.Core.Bool.{Bool, true, false, cond}
 use mathlib.Core.List.{List, [], _∷_}
-use Prim.Native.Nat.{ℕ, _+_, _≤_, _<_, _/_, _%_, min}
+use Prim.Native.Nat.{ℕ, _+_, _≤_, _/_, _%_, min}
 use native.Mathlib.Omega.{arith}
-use lib.Dec.{leb, eqb}
+use lib.Dec.{eqb}
 use lib.ListN.{getD}
-use borrow.Author.Tests.{eqb-true, le-leb, lt-leb}
-use Rattle.enforcement.specs.Automaton.{Bytes, Transition, bit, within}
+use Rattle.enforcement.specs.Automaton.{Bytes, Transition, bit}
 use Rattle.enforcement.specs.Loading.{Fits}
 use Rattle.enforcement.specs.TimedWord.{fire}
 use Rattle.enforcement.specs.Model.{top, advance}
 use Rattle.retimer.specs.Readings.{Readings, waited, resetBy, located, Standing}
-
--- ---- The bound test
-
-pub within-low : (low high x : ℕ) → x < low → false ≡ within low high x
-within-low low high x h = simp (lt-leb low x h)
-
--- A byte above its low is within the bounds just when it is at most the high, for 255 is above every byte.
-pub within-high : (low high x : ℕ) → x < 256 → low ≤ x → leb x high ≡ within low high x
-within-high low high x f h = simp (le-leb low x h) (go (eqb high 255) refl)
-  where
-    go : (t : Bool) → eqb high 255 ≡ t → leb x high ≡ (t || leb x high)
-    go true e = le-leb x high (omega (arith, eqb-true high 255 e))
-    go false e = refl
 
 -- ---- Readings
 

@@ -1,4 +1,5 @@
 pub mod Bytes
+pub mod Comparisons
 pub mod Readings
 pub mod Steps
 pub mod Reasons

@@ -12,7 +12,7 @@ use Rattle.retimer.specs.Live.{LiveTable}
 use Rattle.retimer.specs.Optimum.{modelOf}
 use Rattle.retimer.specs.Waits.{firstWait, endWait, along}
 
--- A transition is for the action c, and enabled at some wait from the readings r on.
+-- A transition is for the action c, and there is a wait from its first to below its end, from the readings r on: one that fits is enabled there (`interval`).
 abbrev pub Opens : ℕ → List ℕ → Transition → Type 0
 Opens c r t = (t .action ≡ c) × (firstWait t (getD r 0 0) (getD r 1 0) < endWait t (getD r 0 0) (getD r 1 0))
 

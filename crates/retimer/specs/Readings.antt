@@ -23,7 +23,7 @@ waited n r = min (getD r 0 0 + n) top ∷ min (getD r 1 0 + n) top ∷ []
 unfoldable pub resetBy : ℕ → List ℕ → List ℕ
 resetBy set r = cond (bit set 0) 0 (getD r 0 0) ∷ cond (bit set 1) 0 (getD r 1 0) ∷ []
 
--- One past the largest reading that a high bound allows; the high 255 is no bound.
+-- One past the largest reading, up to saturation, that a high bound allows; the high 255 is no bound.
 abbrev pub past : ℕ → ℕ
 past high = cond (eqb high 255) width (high + 1)
 

@@ -1,5 +1,7 @@
 // Readings of the two clocks, saturated just above the largest bound; the bound test, and where a bound ends.
 use crate::bytes;
+use crate::comparison;
+use crate::comparison::Comparison;
 use crate::limits::Monitor;
 ghost use mathlib.Core.Path.{_≡_};
 ghost use mathlib.Core.Bool.{cond};
@@ -59,17 +61,20 @@ pub fn reset(r: [u8; 2], set: u8) -> [u8; 2]
     [kept(set % 2, r[0]), kept(set / 2 % 2, r[1])]
 }
 
-// Whether a reading lies from low to high. No byte is above the high 255, which is no upper bound.
+// Whether a reading lies from low to high, by the case that the bounds fall in.
 pub fn within(low: u8, high: u8, x: u8) -> bool
     ensures { λ b. ⌜ b ≡ within low high x ⌝ }
 {
-    if x < low {
-        return false;
+    let case = comparison::of(low, high);
+    match case {
+        Comparison::AtLeast => comparison::at_least(low, x),
+        Comparison::Exactly => comparison::exactly(low, x),
+        Comparison::AtMost => comparison::at_most(high, x),
+        Comparison::Between => comparison::between(low, high, x),
     }
-    x <= high
 }
 
-// One past the largest reading that a high bound allows.
+// One past the largest reading, up to saturation, that a high bound allows.
 pub fn past(high: u8) -> usize
     ensures { λ r. ⌜ r ≡ past high ⌝ }
 {

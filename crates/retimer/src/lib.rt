@@ -9,6 +9,9 @@ pub mod reason;
 // Numbers read from bytes.
 pub mod bytes;
 
+// The comparisons that bounds make.
+pub mod comparison;
+
 // Readings of the clocks.
 pub mod clocks;
 

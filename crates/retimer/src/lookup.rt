@@ -4,6 +4,7 @@ use crate::clocks;
 ghost use mathlib.Core.Path.{_≡_};
 ghost use Prim.Native.Nat.{_+_, _≤_};
 ghost use lib.ListN.{length};
+ghost use Rattle.enforcement.specs.Automaton.{transitionAt, enabled};
 ghost use Rattle.enforcement.specs.Loading.{Loads};
 ghost use Rattle.retimer.specs.Readings.{Standing};
 ghost use Rattle.retimer.specs.Steps.{applies, Placed, StepRight};
@@ -15,18 +16,26 @@ pub struct Stepped {
     pub readings: [u8; 2],
 }
 
+// Whether the readings enable the transition at a place: each lies from its low to its high.
+pub fn enabled(s: &[u8], p: usize, x: u8, y: u8) -> bool
+    requires { ⌜ p + 7 ≤ length (now s) ⌝ }
+    ensures { λ b. ⌜ b ≡ enabled (transitionAt (now (s .entry)) p) x y ⌝ }
+{
+    if !clocks::within(s[p + 3], s[p + 4], x) {
+        return false;
+    }
+    clocks::within(s[p + 5], s[p + 6], y)
+}
+
 // Whether the transition at a place is for the action, and the readings enable it.
-fn enabled(s: &[u8], p: usize, c: u8, x: u8, y: u8) -> bool
+fn applies(s: &[u8], p: usize, c: u8, x: u8, y: u8) -> bool
     requires { ⌜ p + 7 ≤ length (now s) ⌝ }
     ensures { λ b. ⌜ b ≡ applies (now (s .entry)) p c x y ⌝ }
 {
     if s[p] != c {
         return false;
     }
-    if !clocks::within(s[p + 3], s[p + 4], x) {
-        return false;
-    }
-    clocks::within(s[p + 5], s[p + 6], y)
+    enabled(s, p, x, y)
 }
 
 // The place of the first transition of the location that is for the action and enabled, or 0.
@@ -40,7 +49,7 @@ fn find(s: &[u8], c: u8, l: u8, r: [u8; 2]) -> usize
     let x = r[0];
     let y = r[1];
     while p < end {
-        if enabled(s, p, c, x, y) {
+        if applies(s, p, c, x, y) {
             return p;
         }
         p += 7;

@@ -220,7 +220,7 @@ fn all_fit(s: &[u8]) -> bool
     true
 }
 
-// Some number lies both from low to high and from `from` to `to`.
+// Some number lies both from low to high and from `from` to `to`, where both are in order.
 fn meet(low: u8, high: u8, from: u8, to: u8) -> bool
     ensures { λ b. ⌜ b ≡ leb low to && leb from high ⌝ }
 {

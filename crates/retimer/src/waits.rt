@@ -28,7 +28,7 @@ pub fn smaller(a: u8, b: u8) -> u8
     if a < b { a } else { b }
 }
 
-// One more than the last wait, at most cap, after which a reading is at most high; 0 if it is above already. The high 255 is further from every reading than any cap.
+// One more than the last wait, at most cap, after which a reading is at most high; 0 if it is above already. The high 255 is further from every reading up to saturation than any cap.
 fn ends(high: u8, x: u8, cap: u8) -> u8
     requires { ⌜ cap ≤ top ⌝ }
     ensures { λ v. ⌜ v ≡ endOf high x cap ⌝ }

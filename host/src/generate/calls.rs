@@ -193,7 +193,7 @@ impl Script {
 
     /// An action for an offer; if steered, the first of some that would get a
     /// wanted answer.
-    fn choose(&self, random: &mut Random, plan: &Plan, date: u32) -> u8 {
+    pub fn choose(&self, random: &mut Random, plan: &Plan, date: u32) -> u8 {
         let count = self.monitor.automaton().actions;
         let mut actions: Vec<u8> = (0..count).collect();
         random.shuffle(&mut actions);

@@ -5,6 +5,7 @@ use super::calls::{push_call, push_random_calls, Pace, Plan, Script};
 use super::damage::{at_an_edge, damaged};
 use super::dated::dated_lists;
 use super::draft::{draw, Bounds, Draft, Goal, Profile};
+use super::edges::bound_edges;
 use super::used_up::{used_up, used_up_lit, used_up_played};
 use super::with_length;
 use crate::course::{A, B, C, D, E};
@@ -32,6 +33,7 @@ pub const KINDS: &[Kind] = &[
     kind("one_clock", one_clock),
     kind("two_clocks", two_clocks),
     kind("deadlines", deadlines),
+    kind("bound_edges", bound_edges),
     kind("long_pending", long_pending),
     kind("long_two_clocks", long_two_clocks),
     kind("dated_lists", dated_lists),

@@ -5,6 +5,7 @@ mod calls;
 mod damage;
 mod dated;
 mod draft;
+mod edges;
 mod kinds;
 mod used_up;
 

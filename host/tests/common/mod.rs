@@ -2,10 +2,11 @@
 #![allow(dead_code)]
 
 use host::desk;
+use host::generate::kind_named;
 use host::monitor::{Answer, Monitor, ScheduledAction};
 use host::refusal::Refusal;
 use host::runs::TimedAction;
-use host::sheet;
+use host::sheet::{self, Automaton};
 
 /// The first byte of a collection.
 pub const COLLECT: u8 = 255;
@@ -62,6 +63,21 @@ pub fn bare_answer(line: &str) -> Option<String> {
 /// Where the first call starts in a desk input.
 pub fn first_call(input: &[u8]) -> usize {
     2 + usize::from(u16::from_le_bytes([input[0], input[1]]))
+}
+
+/// Seeds per kind over which occurrences are counted.
+pub const SEEDS: u64 = 400;
+
+/// The automata of a kind's inputs, as far as they load.
+pub fn automata(name: &str) -> Vec<(usize, Automaton)> {
+    let kind = kind_named(name).expect("the kind exists");
+    let inputs = (0..SEEDS).map(|seed| kind.input(seed));
+    let load = |input: Vec<u8>| {
+        let end = first_call(&input);
+        let automaton = sheet::read(input.get(2..end)?).ok()?;
+        Some((end - 2, automaton))
+    };
+    inputs.filter_map(load).collect()
 }
 
 /// A desk input of a sheet and calls.

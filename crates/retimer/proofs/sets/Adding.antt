@@ -11,15 +11,14 @@ use lib.Seq.{getD-set-same, getD-set-other}
 use lib.Bits.{bitOr, bitAnd}
 use borrow.Author.Tests.{eq-eqb, ne-eqb, eqb-true, eqb-false, ltb-true, ltb-false}
 use Rattle.enforcement.specs.Limits.{maxCount}
-use Rattle.enforcement.specs.Automaton.{Bytes, Transition, bit, within}
-use Rattle.enforcement.specs.Loading.{Fits}
+use Rattle.enforcement.specs.Automaton.{Transition, bit, within, enabled}
 use Rattle.enforcement.specs.Model.{top, width}
 use Rattle.retimer.specs.Row.{Spread}
 use Rattle.retimer.specs.Readings.{past}
 use Rattle.retimer.specs.Sets.{Columns}
 use Rattle.retimer.specs.Leading.{allRows, member, slack, keptFirst, keptSecond, leads, Leading, RowAdded, Others, TransitionAdded}
 use Rattle.enforcement.proofs.Bits.{bit-or, bit-and, bit-lowest}
-use Rattle.retimer.proofs.sets.Bounding.{within-above, within-below, within-inside, saturated-in, saturated-out, columns-bit}
+use Rattle.retimer.proofs.sets.Bounding.{within-above, within-below, within-inside, columns-bit}
 use Rattle.retimer.proofs.Valuations.{cond-most}
 use Rattle.retimer.proofs.sets.Tables.{apart}
 
@@ -42,17 +41,14 @@ leads-out : (t : List ℕ) (v : Transition) (x y : ℕ) → within (v .low2) (v 
 unfolding leads
 leads-out t v x y e = rw (e, and-false (within (v .low1) (v .high1) x)) refl
 
-module _ (t : List ℕ) (s : Bytes) (v : Transition) (fits : Fits s v) where
-  pub first-stops : (v .high1 ≡ 255 → ⊥) → false ≡ leads t v top top
+module _ (t : List ℕ) (v : Transition) where
+  pub saturated-stops : enabled v top top ≡ false → false ≡ leads t v top top
   unfolding leads
-  first-stops ne = rw (saturated-out (v .low1) (v .high1) (fits .first) ne) refl
+  saturated-stops e = rw e refl
 
-  pub second-stops : (v .high2 ≡ 255 → ⊥) → false ≡ leads t v top top
-  second-stops ne = sym (leads-out t v top top (saturated-out (v .low2) (v .high2) (fits .second) ne))
-
-  pub saturated-leads : v .high1 ≡ 255 → v .high2 ≡ 255 → (n w : ℕ) → n ≡ v .target → Leading t n (v .resets) top w → bit w top ≡ leads t v top top
+  pub saturated-leads : enabled v top top ≡ true → (n w : ℕ) → n ≡ v .target → Leading t n (v .resets) top w → bit w top ≡ leads t v top top
   unfolding leads
-  saturated-leads e f n w h a = a .bits top (omega arith) ∙ rw (saturated-in (v .low1) (v .high1) (fits .first) e, saturated-in (v .low2) (v .high2) (fits .second) f, h) refl
+  saturated-leads e n w h a = a .bits top (omega arith) ∙ rw (e, h) refl
 
 -- ---- The loop
 

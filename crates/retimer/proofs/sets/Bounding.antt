@@ -11,13 +11,11 @@ use Rattle.enforcement.specs.Limits.{maxBound}
 use Rattle.enforcement.specs.Automaton.{Bytes, Transition, bit, clocks, within, enabled}
 use Rattle.enforcement.specs.Loading.{Bounds, Fits}
 use Rattle.enforcement.specs.Model.{top, width}
-use Rattle.enforcement.proofs.Tests.{Tests, leb-tests, eqb-tests, both-tests, either-tests, test-true}
+use Rattle.enforcement.proofs.Tests.{Tests, both-tests, test-true, none-true}
+use Rattle.enforcement.proofs.Comparisons.{within-tests}
 use Rattle.retimer.specs.Row.{Interval}
 use Rattle.retimer.specs.Readings.{past}
 use Rattle.retimer.specs.Sets.{second, height, Columns}
-
-within-tests : (low high x : ℕ) → Tests (within low high x) ((low ≤ x) × ((high ≡ 255) ⊎ (x ≤ high)))
-within-tests low high x = both-tests (leb-tests low x) (either-tests (eqb-tests high 255) (leb-tests x high))
 
 pub enabled-tests : (u : Transition) (x y : ℕ) → Tests (enabled u x y) ((within (u .low1) (u .high1) x ≡ true) × (within (u .low2) (u .high2) y ≡ true))
 enabled-tests u x y = both-tests (is (within (u .low1) (u .high1) x)) (is (within (u .low2) (u .high2) y))
@@ -55,11 +53,6 @@ columns-right u a b v h e f i = record {
   );
 }
 
--- A test that can't be true is false.
-none-true : (b : Bool) → (b ≡ true → ⊥) → b ≡ false
-none-true true h = absurd (h refl)
-none-true false h = refl
-
 pub within-inside : (low high x : ℕ) → low ≤ x → x < past high → x ≤ top → within low high x ≡ true
 within-inside low high x h g f = within-past low high x f .0 (h, g)
 
@@ -68,22 +61,6 @@ within-above low high x h g = none-true _ (λ e. let w = within-past low high x 
 
 pub within-below : (low high x : ℕ) → x ≤ top → x < low → within low high x ≡ false
 within-below low high x h g = none-true _ (λ e. let w = within-past low high x h .1 e in omega (arith, w .0))
-
--- At the saturated reading only a high bound can be in the way.
-pub saturated-in : (low high : ℕ) → Bounds low high → high ≡ 255 → within low high top ≡ true
-saturated-in low high b e = within-inside low high top (omega (arith, b .low-fits)) (go (eqb high 255) refl) (omega arith)
-  where
-    go : (c : Bool) → eqb high 255 ≡ c → top < cond c width (high + 1)
-    go true d = omega arith
-    go false d = absurd (eqb-false high 255 d e)
-
-pub saturated-out : (low high : ℕ) → Bounds low high → (high ≡ 255 → ⊥) → within low high top ≡ false
-saturated-out low high b ne = within-above low high top (omega arith) (go (eqb high 255) refl (b .high-fits))
-  where
-    go : (c : Bool) → eqb high 255 ≡ c → (high ≤ maxBound) ⊎ (high ≡ 255) → cond c width (high + 1) ≤ top
-    go true d f = absurd (ne (eqb-true high 255 d))
-    go false d (inl f) = omega arith
-    go false d (inr f) = absurd (ne f)
 
 -- A column is there just when its reading is within the bounds.
 pub columns-bit : {u : Transition} {v : ℕ} → Columns u v → (x : ℕ) → x ≤ top → bit v x ≡ within (u .low1) (u .high1) x

@@ -2,6 +2,7 @@
 use crate::bytes;
 use crate::clocks;
 use crate::limits::Monitor;
+use crate::lookup;
 use crate::sets::bounds;
 use crate::sets::row;
 ghost use mathlib.Core.Path.{_≡_};
@@ -26,15 +27,12 @@ fn leading(rows: &[u64], target: usize, resets: u8, y: usize) -> u64
     row
 }
 
-// Whether the transition at a place leads from saturated readings into the rows: of bounds, only high ones are in its way.
+// Whether the transition at a place leads from saturated readings into the rows.
 pub fn leads_saturated(s: &[u8], rows: &[u64], p: usize) -> bool
     requires { ⌜ (length (now rows) ≡ allRows) × ((p + 7 ≤ length (now s)) × ((Fits (now s) (transitionAt (now s) p)) × (locations (now s) ≤ maxCount))) ⌝ }
     ensures { λ b. ⌜ b ≡ leads (now (rows .entry)) (transitionAt (now (s .entry)) p) top top ⌝ }
 {
-    if s[p + 4] != 255 {
-        return false;
-    }
-    if s[p + 6] != 255 {
+    if !lookup::enabled(s, p, Monitor::TOP, Monitor::TOP) {
         return false;
     }
     let row = leading(rows, bytes::wide(s[p + 1]), s[p + 2], Monitor::TOP as usize);

@@ -1,13 +1,74 @@
--- `clocks::within` meets its contract: a byte is at most 255, so the high 255 needs no test of its own. Assumes nothing.
-use Rattle.retimer.proofs.Valuations.{within-low, within-high}
+-- `clocks::within` meets its contract: the case that is picked says what the test does.
+-- Assumes nothing.
+use mathlib.Core.Path.{sym, ap, _∙_}
+use borrow.Author.Needs.{needs}
+use Rattle.enforcement.specs.Comparison.{at-least, exactly, at-most, between}
+use Rattle.enforcement.proofs.Comparisons.{says-within}
+use Rattle.retimer.specs.Comparisons.{comparisonOf}
 use Rattle.retimer.proofs.clocks.within.Statement.{statement}
 use Rattle.retimer.proofs.clocks.within.Tie as tie
 
+of-requires : tie.Need-of-requires
+of-requires c κs = search needs
+
+enum-told : tie.Need-enum-told
+enum-told c = search needs
+
+at-least-requires : tie.Need-at-least-requires
+at-least-requires c κs = search needs
+
+enum-told-2 : tie.Need-enum-told-2
+enum-told-2 c = search needs
+
+exactly-requires : tie.Need-exactly-requires
+exactly-requires c κs = search needs
+
+enum-told-3 : tie.Need-enum-told-3
+enum-told-3 c = search needs
+
+at-most-requires : tie.Need-at-most-requires
+at-most-requires c κs = search needs
+
+enum-told-4 : tie.Need-enum-told-4
+enum-told-4 c = search needs
+
+between-requires : tie.Need-between-requires
+between-requires c κs = search needs
+
 returns : tie.Need-returns
-returns c = within-low _ (c .before .args .high) _ (c .if1 .taken)
+returns c =
+    let a = c .before .before .before .before .args in
+    c .at-least .ensures ∙ says-within (a .low) (a .high) at-least (ap comparisonOf (sym (c .before .enum-told .given .1)) ∙ c .before .before .before .of .ensures) (a .x)
 
 returns-2 : tie.Need-returns-2
-returns-2 c = within-high _ _ _ (c .before .fits .x .fits) (c .if1 .left)
+returns-2 c =
+    let a = c .before .before .before .before .args in
+    c .exactly .ensures ∙ says-within (a .low) (a .high) exactly (ap comparisonOf (sym (c .before .enum-told2 .given .1)) ∙ c .before .before .before .of .ensures) (a .x)
+
+returns-3 : tie.Need-returns-3
+returns-3 c =
+    let a = c .before .before .before .before .args in
+    c .at-most .ensures ∙ says-within (a .low) (a .high) at-most (ap comparisonOf (sym (c .before .enum-told3 .given .1)) ∙ c .before .before .before .of .ensures) (a .x)
+
+returns-4 : tie.Need-returns-4
+returns-4 c =
+    let a = c .before .before .before .before .args in
+    c .between .ensures ∙ says-within (a .low) (a .high) between (ap comparisonOf (sym (c .before .enum-told4 .given .1)) ∙ c .before .before .before .of .ensures) (a .x)
 
 pub within-spec : {M : Type 1} → statement M
-within-spec = tie.close (tie.spec returns returns-2)
+within-spec =
+    tie.close
+    (tie.spec
+    of-requires
+    enum-told
+    at-least-requires
+    enum-told-2
+    exactly-requires
+    enum-told-3
+    at-most-requires
+    enum-told-4
+    between-requires
+    returns
+    returns-2
+    returns-3
+    returns-4)

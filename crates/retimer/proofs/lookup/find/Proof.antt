@@ -46,13 +46,13 @@ loop-holds c =
     let z = c .before .before .before .before in
     begun-at _ _ _ _ _ _ _ _ (z .pre .0) (z .pre .1 .in-sheet) (c .before .before .wide .ensures .0) (c .before .word-at .ensures .0) (c .word-at2 .ensures .0)
 
-enabled-requires : tie.Need-enabled-requires Inv-loop μ-loop
-enabled-requires c κs = search needs
+applies-requires : tie.Need-applies-requires Inv-loop μ-loop
+applies-requires c κs = search needs
 
 returns : tie.Need-returns Inv-loop μ-loop
 returns c =
     let h = c .before .before .before in
-    placed-at _ _ _ _ _ _ (h .loop .inv) (c .before .before .loop-test .taken) (sym (c .before .enabled .ensures) ∙ c .if1 .taken)
+    placed-at _ _ _ _ _ _ (h .loop .inv) (c .before .before .loop-test .taken) (sym (c .before .applies .ensures) ∙ c .if1 .taken)
 
 add-p : tie.Need-add-p Inv-loop μ-loop
 add-p c = search needs
@@ -63,7 +63,7 @@ loop-less c = search needs
 loop-again : tie.Need-loop-again Inv-loop μ-loop
 loop-again c =
     let h = c .before .before .before in
-    passed (h .loop .inv) (c .before .before .loop-test .taken) (sym (c .before .enabled .ensures) ∙ c .if1 .left)
+    passed (h .loop .inv) (c .before .before .loop-test .taken) (sym (c .before .applies .ensures) ∙ c .if1 .left)
 
 returns-2 : tie.Need-returns-2 Inv-loop μ-loop
 returns-2 c = placed-none _ _ _ _ _ _ (c .before .loop .inv) (c .loop-test .left)
@@ -84,7 +84,7 @@ find-spec =
     array-read-x
     array-read-y
     loop-holds
-    enabled-requires
+    applies-requires
     returns
     add-p
     loop-less

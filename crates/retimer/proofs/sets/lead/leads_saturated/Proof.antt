@@ -1,27 +1,17 @@
--- `lead::leads_saturated` meets its contract. Assumes nothing.
-use Rattle.retimer.proofs.sets.Adding.{first-stops, second-stops, saturated-leads}
+-- `lead::leads_saturated` meets its contract.
+-- Assumes nothing.
 use native.Mathlib.Omega.{arith}
 use borrow.Author.Needs.{needs}
+use Rattle.retimer.proofs.SheetLaws.{failed, passed}
+use Rattle.retimer.proofs.sets.Adding.{saturated-stops, saturated-leads}
 use Rattle.retimer.proofs.sets.lead.leads_saturated.Statement.{statement}
 use Rattle.retimer.proofs.sets.lead.leads_saturated.Tie as tie
 
-add-if1 : tie.Need-add-if1
-add-if1 c = search needs
-
-shared-slice-read-if1 : tie.Need-shared-slice-read-if1
-shared-slice-read-if1 c = search needs
+enabled-requires : tie.Need-enabled-requires
+enabled-requires c κs = search needs
 
 returns : tie.Need-returns
-returns c = first-stops _ _ _ (c .before .before .before .before .pre .1 .1 .0) (c .if1 .taken)
-
-add-if2 : tie.Need-add-if2
-add-if2 c = search needs
-
-shared-slice-read-if2 : tie.Need-shared-slice-read-if2
-shared-slice-read-if2 c = search needs
-
-returns-2 : tie.Need-returns-2
-returns-2 c = second-stops _ _ _ (c .before .before .before .before .before .before .pre .1 .1 .0) (c .if2 .taken)
+returns c = saturated-stops _ _ (failed (c .before .enabled .ensures) (c .if1 .taken))
 
 add-wide : tie.Need-add-wide
 add-wide c = search needs
@@ -42,7 +32,9 @@ cast-leading : tie.Need-cast-leading
 cast-leading c = search needs
 
 leading-requires : tie.Need-leading-requires
-leading-requires c κs = (c .before .before .before .before .before .before .before .before .before .pre .0, (omega (arith, c .before .wide .ensures .0, c .before .before .before .before .before .before .before .before .before .pre .1 .1 .0 .target-fits, c .before .before .before .before .before .before .before .before .before .pre .1 .1 .1), omega arith))
+leading-requires c κs =
+    let h = c .before .before .before .before .before .before .before .pre in
+    (h .0, (omega (arith, c .before .wide .ensures .0, h .1 .1 .0 .target-fits, h .1 .1 .1), omega arith))
 
 cast-result : tie.Need-cast-result
 cast-result c = search needs
@@ -50,19 +42,15 @@ cast-result c = search needs
 shr-result : tie.Need-shr-result
 shr-result c = search needs
 
-returns-3 : tie.Need-returns-3
-returns-3 c = saturated-leads _ _ _ (c .before .before .before .before .before .before .before .before .before .before .pre .1 .1 .0) (c .before .before .before .before .before .before .if1 .left) (c .before .before .before .before .if2 .left) _ _ (c .before .before .wide .ensures .0) (c .leading .ensures)
+returns-2 : tie.Need-returns-2
+returns-2 c = saturated-leads _ _ (passed (c .before .before .before .before .before .enabled .ensures) (c .before .before .before .before .if1 .left)) _ _ (c .before .before .wide .ensures .0) (c .leading .ensures)
 
 pub leads-saturated-spec : {M : Type 1} → statement M
 leads-saturated-spec =
     tie.close
     (tie.spec
-    add-if1
-    shared-slice-read-if1
+    enabled-requires
     returns
-    add-if2
-    shared-slice-read-if2
-    returns-2
     add-wide
     shared-slice-read-wide
     wide-requires
@@ -72,4 +60,4 @@ leads-saturated-spec =
     leading-requires
     cast-result
     shr-result
-    returns-3)
+    returns-2)
