@@ -28,9 +28,9 @@ to-high {low} {high} {x} h l = go (l .1)
     go (inr k) = k
 
 -- There is one in each case but the first.
-bounded : {c : Comparison} {low high : ℕ} → Falls c low high → rank at-least < rank c → high ≡ 255 → ⊥
+has-high : {c : Comparison} {low high : ℕ} → Falls c low high → rank at-least < rank c → high ≡ 255 → ⊥
 unfolding Suits
-bounded f h e = f .none-earlier at-least h e
+has-high f h e = f .none-earlier at-least h e
 
 -- A test of a statement decides another that says the same.
 decides : {b : Bool} {P Q : Type 0} → Tests b P → (P → Q) → (Q → P) → (b ≡ true) ↔ Q
@@ -44,16 +44,16 @@ pub exactly-right : CaseRight exactly
 unfolding Suits
 exactly-right low high x f =
     let equal = f .suits in
-    decides (eqb-tests x low) (λ e. (omega arith, inr (omega arith))) (λ l. omega (arith, l .0, to-high (bounded f (omega arith)) l))
+    decides (eqb-tests x low) (λ e. (omega arith, inr (omega arith))) (λ l. omega (arith, l .0, to-high (has-high f (omega arith)) l))
 
 pub at-most-right : CaseRight at-most
 unfolding Suits
 at-most-right low high x f =
     let zero = f .suits in
-    decides (leb-tests x high) (λ l. (omega arith, inr l)) (to-high (bounded f (omega arith)))
+    decides (leb-tests x high) (λ l. (omega arith, inr l)) (to-high (has-high f (omega arith)))
 
 pub between-right : CaseRight between
-between-right low high x f = decides (both-tests (leb-tests low x) (leb-tests x high)) (λ l. (l .0, inr (l .1))) (λ l. (l .0, to-high (bounded f (omega arith)) l))
+between-right low high x f = decides (both-tests (leb-tests low x) (leb-tests x high)) (λ l. (l .0, inr (l .1))) (λ l. (l .0, to-high (has-high f (omega arith)) l))
 
 case-right : (c : Comparison) → CaseRight c
 case-right at-least = at-least-right
@@ -99,19 +99,19 @@ module _ (low high : ℕ) where
   only-picked : (c : Comparison) → Falls c low high → c ≡ pick low high
   unfolding Suits
   only-picked at-least f = pick-at-least (f .suits)
-  only-picked exactly f = pick-exactly (bounded f (omega arith)) (f .suits)
-  only-picked at-most f = pick-at-most (bounded f (omega arith)) (f .none-earlier exactly (omega arith)) (f .suits)
-  only-picked between f = pick-between (bounded f (omega arith)) (f .none-earlier exactly (omega arith)) (f .none-earlier at-most (omega arith))
+  only-picked exactly f = pick-exactly (has-high f (omega arith)) (f .suits)
+  only-picked at-most f = pick-at-most (has-high f (omega arith)) (f .none-earlier exactly (omega arith)) (f .suits)
+  only-picked between f = pick-between (has-high f (omega arith)) (f .none-earlier exactly (omega arith)) (f .none-earlier at-most (omega arith))
 
-  pub picked : PickRight low high
-  picked = record { falls = subst (λ (c : Comparison). Falls c low high) (only-picked (some-case .0) (some-case .1)) (some-case .1); only = only-picked }
+  pub pick-right : PickRight low high
+  pick-right = record { falls = subst (λ (c : Comparison). Falls c low high) (only-picked (some-case .0) (some-case .1)) (some-case .1); only = only-picked }
 
   -- So the test is what the case that is picked says.
   pub says-within : (c : Comparison) → c ≡ pick low high → (x : ℕ) → says c low high x ≡ within low high x
-  says-within c e x = agree (case-right c low high x (subst (λ (d : Comparison). Falls d low high) (sym e) (picked .falls))) (within-right low high x)
+  says-within c e x = agree (case-right c low high x (subst (λ (d : Comparison). Falls d low high) (sym e) (pick-right .falls))) (within-right low high x)
 
-pub order : OrderRight
-order = record { unbounded-and-equal = picked 255 255 .falls; unbounded-and-zero = picked 0 255 .falls; equal-and-zero = picked 0 0 .falls; zero-alone = picked 0 1 .falls; the-rest = picked 1 2 .falls }
+pub order-right : OrderRight
+order-right = record { unbounded-and-equal = pick-right 255 255 .falls; unbounded-and-zero = pick-right 0 255 .falls; equal-and-zero = pick-right 0 0 .falls; zero-alone = pick-right 0 1 .falls; the-rest = pick-right 1 2 .falls }
 
 -- ---- Document 002's comparisons of a reading with a constant, as bounds
 

@@ -48,7 +48,7 @@ pub fn at_most(high: u8, x: u8) -> bool
     x <= high
 }
 
-// Between low and high.
+// Between low and high, both included.
 pub fn between(low: u8, high: u8, x: u8) -> bool
     ensures { λ b. ⌜ b ≡ says between low high x ⌝ }
 {
