@@ -9,6 +9,7 @@ use host::refusal::Refusal;
 use host::runs::Configuration;
 use host::sets::ConfigurationSet;
 use host::sheet::{self, Automaton, Interval};
+use std::collections::HashMap;
 
 /// The reason against a sheet.
 fn reason(bytes: &[u8]) -> Option<Refusal> {
@@ -392,7 +393,7 @@ fn all_bounds() -> impl Iterator<Item = [u8; 2]> {
 /// The cases of document 02's bound test, the first that fits.
 #[test]
 fn readings_within_bounds() {
-    let mut cases = [0; 4];
+    let mut cases = HashMap::new();
     for [low, high] in all_bounds() {
         let interval = Interval::from_bytes(low, high);
         let (low, high) = (u32::from(low), u32::from(high));
@@ -401,18 +402,22 @@ fn readings_within_bounds() {
             (0..=300).all(|it| interval.contains(it) == says(it) && says(it) == plain(it))
         };
         let (case, is_same) = if high == 255 {
-            (0, same(&|at_least| at_least >= low))
+            ("at least", same(&|reading| reading >= low))
         } else if low == high {
-            (1, same(&|exactly| exactly == low))
+            ("exactly", same(&|reading| reading == low))
         } else if low == 0 {
-            (2, same(&|at_most| at_most <= high))
+            ("at most", same(&|reading| reading <= high))
         } else {
-            (3, same(&|between| (low..=high).contains(&between)))
+            (
+                "between",
+                same(&|reading| low <= reading && reading <= high),
+            )
         };
-        assert!(is_same, "{low} to {high}");
-        cases[case] += 1;
+        assert!(is_same, "{low} to {high}, {case}");
+        *cases.entry(case).or_insert(0) += 1;
     }
-    assert_eq!(cases, [256, 255, 254, 64_771]);
+    let counts = ["at least", "exactly", "at most", "between"].map(|case| cases[case]);
+    assert_eq!(counts, [256, 255, 254, 64_771]);
 }
 
 /// Whether a set in which a clock has a reading can play the only action.

@@ -32,28 +32,24 @@ has-high : {c : Comparison} {low high : ℕ} → Falls c low high → rank at-le
 unfolding Suits
 has-high f h e = f .none-earlier at-least h e
 
--- A test of a statement decides another that says the same.
-decides : {b : Bool} {P Q : Type 0} → Tests b P → (P → Q) → (Q → P) → (b ≡ true) ↔ Q
-decides t f g = exact (tests-same f g t)
-
 pub at-least-right : CaseRight at-least
 unfolding Suits
-at-least-right low high x f = decides (leb-tests low x) (λ l. (l, inl (f .suits))) (λ l. l .0)
+at-least-right low high x f = exact (tests-same (λ l. (l, inl (f .suits))) (λ l. l .0) (leb-tests low x))
 
 pub exactly-right : CaseRight exactly
 unfolding Suits
 exactly-right low high x f =
     let equal = f .suits in
-    decides (eqb-tests x low) (λ e. (omega arith, inr (omega arith))) (λ l. omega (arith, l .0, to-high (has-high f (omega arith)) l))
+    exact (tests-same (λ e. (omega arith, inr (omega arith))) (λ l. omega (arith, l .0, to-high (has-high f (omega arith)) l)) (eqb-tests x low))
 
 pub at-most-right : CaseRight at-most
 unfolding Suits
 at-most-right low high x f =
     let zero = f .suits in
-    decides (leb-tests x high) (λ l. (omega arith, inr l)) (to-high (has-high f (omega arith)))
+    exact (tests-same (λ l. (omega arith, inr l)) (to-high (has-high f (omega arith))) (leb-tests x high))
 
 pub between-right : CaseRight between
-between-right low high x f = decides (both-tests (leb-tests low x) (leb-tests x high)) (λ l. (l .0, inr (l .1))) (λ l. (l .0, to-high (has-high f (omega arith)) l))
+between-right low high x f = exact (tests-same (λ l. (l .0, inr (l .1))) (λ l. (l .0, to-high (has-high f (omega arith)) l)) (both-tests (leb-tests low x) (leb-tests x high)))
 
 case-right : (c : Comparison) → CaseRight c
 case-right at-least = at-least-right
