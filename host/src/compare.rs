@@ -3,6 +3,8 @@
 
 use crate::desk;
 use crate::generate::Kind;
+use crate::loading::{self, Loading};
+use crate::monitor::Monitor;
 use crate::pieces::{cuts, feed};
 use crate::tally::Tally;
 use std::io;
@@ -57,6 +59,7 @@ pub struct Difference {
 
 /// An input and where it is cut into pieces.
 struct Case<'a> {
+    loading: Loading,
     kind: &'a Kind,
     seed: u64,
     input: Vec<u8>,
@@ -64,10 +67,11 @@ struct Case<'a> {
 }
 
 impl<'a> Case<'a> {
-    fn new(kind: &'a Kind, seed: u64) -> Self {
-        let input = kind.input(seed);
-        let cuts = cuts(kind, seed, &input);
+    fn new(loading: Loading, kind: &'a Kind, seed: u64) -> Self {
+        let input = kind.input_as(loading, seed);
+        let cuts = cuts(loading, kind, seed, &input);
         Case {
+            loading,
             kind,
             seed,
             input,
@@ -76,9 +80,11 @@ impl<'a> Case<'a> {
     }
 }
 
-/// Runs each of the kinds for each seed through the program and the library.
+/// Runs each of the kinds for each seed through the program and the library. The
+/// inputs begin as the program wants it.
 pub fn compare<'a>(
     program: &Path,
+    loading: Loading,
     kinds: impl IntoIterator<Item = &'a Kind>,
     first_seed: u64,
     seeds: u64,
@@ -86,15 +92,16 @@ pub fn compare<'a>(
     let mut summary = Summary::default();
     for kind in kinds {
         for seed in kind.seeds(first_seed, seeds) {
-            compare_one(program, kind, seed, &mut summary)?;
+            let case = Case::new(loading, kind, seed);
+            compare_one(program, case, &mut summary)?;
         }
     }
     Ok(summary)
 }
 
-fn compare_one(program: &Path, kind: &Kind, seed: u64, summary: &mut Summary) -> Result<(), Stop> {
-    let case = Case::new(kind, seed);
-    let expected = desk::run(&case.input);
+fn compare_one(program: &Path, case: Case, summary: &mut Summary) -> Result<(), Stop> {
+    let kind = case.kind;
+    let expected = desk::run_as::<Monitor>(case.loading, &case.input);
     if let Some(look) = kind.look {
         look(&case.input, &expected).map_err(|missing| Stop::Pointless {
             kind: kind.name,
@@ -113,6 +120,9 @@ fn compare_one(program: &Path, kind: &Kind, seed: u64, summary: &mut Summary) ->
     };
     part.inputs += 1;
     part.tally.add(&expected);
+    if case.loading == Loading::AtDate {
+        loading::count(&mut part.tally, &case.input, &expected);
+    }
     part.unsuccessful += u64::from(!found.status.success());
     Ok(())
 }
@@ -137,9 +147,10 @@ pub fn run(program: &Path, input: &[u8], cuts: &[usize]) -> io::Result<Output> {
 
 fn difference(case: Case, expected: &str, found: &Output) -> Difference {
     let (kind, seed) = (case.kind.name, case.seed);
+    let program = case.loading.program();
     let text = String::from_utf8_lossy(&found.stdout);
     let (line, expected, found_line) = first_difference(expected, &text);
-    let name = format!("desk-input-{kind}-{seed}-{}.bin", process::id());
+    let name = format!("{program}-input-{kind}-{seed}-{}.bin", process::id());
     let path = env::temp_dir().join(name);
     Difference {
         kind,

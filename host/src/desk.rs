@@ -1,9 +1,12 @@
-//! The desk program: reads its whole input and makes its lines.
+//! The desk program: reads its whole input and makes its lines. With a loading
+//! date before that input it is the other desk program.
 
 use crate::lines::{push_answer, push_number, push_word};
+use crate::loading::Loading;
 use crate::monitor::{Answer, Monitor};
 use crate::refusal::Refusal;
 use crate::sheet::{self, Automaton};
+use std::ffi::OsString;
 use std::io::{self, Read, Write};
 use std::process::ExitCode;
 
@@ -14,8 +17,8 @@ pub const COLLECTION: u8 = 255;
 
 /// A box, as the desk program uses it.
 pub trait Calls {
-    /// A fresh box.
-    fn fresh(automaton: Automaton) -> Self;
+    /// A fresh box, loaded at a date that is not above the last one.
+    fn fresh(automaton: Automaton, loaded: u32) -> Self;
     /// Offers an action at a date.
     fn offer(&mut self, action: u8, date: u32) -> Answer;
     /// Collects the oldest scheduled action if it is due at a date.
@@ -25,8 +28,8 @@ pub trait Calls {
 }
 
 impl Calls for Monitor {
-    fn fresh(automaton: Automaton) -> Self {
-        Monitor::new(automaton)
+    fn fresh(automaton: Automaton, loaded: u32) -> Self {
+        Monitor::new(automaton, loaded)
     }
 
     fn offer(&mut self, action: u8, date: u32) -> Answer {
@@ -47,29 +50,43 @@ pub fn run(input: &[u8]) -> String {
     run_with::<Monitor>(input)
 }
 
+/// Gives all lines for an input that begins with a loading date.
+pub fn run_at(input: &[u8]) -> String {
+    run_as::<Monitor>(Loading::AtDate, input)
+}
+
 /// Gives all lines, worked out with a box of some kind.
 pub fn run_with<M: Calls>(input: &[u8]) -> String {
-    let Some((bytes, calls)) = split(input) else {
+    run_as::<M>(Loading::AtZero, input)
+}
+
+/// The same for an input that begins in either way.
+pub fn run_as<M: Calls>(loading: Loading, input: &[u8]) -> String {
+    let Some((date, rest)) = loading.split(input) else {
         return refused_sheet(Refusal::I1);
     };
-    match sheet::read(bytes) {
+    let Some((bytes, calls)) = split(rest) else {
+        return refused_sheet(Refusal::I1);
+    };
+    match sheet::load(bytes, date) {
         Ok(automaton) => {
             let mut lines = header(&automaton).into_bytes();
-            call_lines(&mut M::fresh(automaton), calls, &mut lines);
+            call_lines(&mut M::fresh(automaton, date), calls, &mut lines);
             String::from_utf8(lines).expect("all lines are text")
         }
         Err(refusal) => refused_sheet(refusal),
     }
 }
 
-/// Runs as a program that takes no arguments: from standard input to standard
-/// output.
+/// Runs as a program from standard input to standard output. Its one argument,
+/// if any, says that the input begins with a loading date.
 pub fn main_with<M: Calls>(name: &str) -> ExitCode {
-    if std::env::args_os().len() > 1 {
-        eprintln!("usage: {name} < input");
+    let arguments: Vec<OsString> = std::env::args_os().skip(1).collect();
+    let (loading, []) = Loading::parse(&arguments) else {
+        eprintln!("usage: {name} [--at] < input");
         return ExitCode::from(2);
-    }
-    match answer_with::<M>() {
+    };
+    match answer_with::<M>(loading) {
         Ok(()) => ExitCode::SUCCESS,
         Err(error) => {
             eprintln!("{name}: {error}");
@@ -78,11 +95,11 @@ pub fn main_with<M: Calls>(name: &str) -> ExitCode {
     }
 }
 
-fn answer_with<M: Calls>() -> io::Result<()> {
+fn answer_with<M: Calls>(loading: Loading) -> io::Result<()> {
     let mut input = Vec::new();
     io::stdin().lock().read_to_end(&mut input)?;
     let mut out = io::stdout().lock();
-    out.write_all(run_with::<M>(&input).as_bytes())?;
+    out.write_all(run_as::<M>(loading, &input).as_bytes())?;
     out.flush()
 }
 
@@ -131,9 +148,14 @@ fn call_lines(monitor: &mut impl Calls, bytes: &[u8], lines: &mut Vec<u8>) {
 
 /// Makes the call that five bytes stand for.
 fn make_call(monitor: &mut impl Calls, call: &[u8]) -> Answer {
-    let date = u32::from_le_bytes([call[1], call[2], call[3], call[4]]);
+    let date = date_of(call);
     match call[0] {
         COLLECTION => monitor.collect(date),
         action => monitor.offer(action, date),
     }
+}
+
+/// The date of the call that five bytes stand for.
+pub fn date_of(call: &[u8]) -> u32 {
+    u32::from_le_bytes([call[1], call[2], call[3], call[4]])
 }

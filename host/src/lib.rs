@@ -12,6 +12,7 @@ pub mod filter;
 pub mod generate;
 pub mod limits;
 pub mod lines;
+pub mod loading;
 pub mod log;
 pub mod monitor;
 pub mod pieces;

@@ -10,5 +10,5 @@ pub const MAX_SCHEDULED: usize = 32;
 pub const MAX_TRANSITIONS: usize = 64;
 /// Most offers that get a number.
 pub const MAX_NUMBERED: u32 = 1_000_000;
-/// Last date that a call, a correction or a log may have.
+/// Last date that a load, a call, a correction or a log may have.
 pub const LAST_DATE: u32 = 1_000_000_000;

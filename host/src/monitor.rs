@@ -72,17 +72,18 @@ pub struct Monitor {
     played: usize,
     /// How many offers have a number; these are 1, 2 and so on.
     numbered: u32,
-    /// Where the last action ever scheduled led, and its date.
+    /// Where the last action ever scheduled led, and its date. At first the
+    /// initial location and the loading date.
     reached: Reached,
 }
 
 impl Monitor {
-    /// A fresh box.
-    pub fn new(automaton: Automaton) -> Self {
-        let reached = beginning(&automaton);
+    /// A fresh box, loaded at a date that is not above the last one.
+    pub fn new(automaton: Automaton, loaded: u32) -> Self {
+        let reached = beginning(&automaton, loaded);
         Monitor {
             automaton,
-            date: 0,
+            date: loaded,
             pending: Vec::new(),
             history: Vec::new(),
             played: 0,

@@ -2,6 +2,7 @@
 
 use crate::desk::{self, CALL};
 use crate::generate::Kind;
+use crate::loading::Loading;
 use std::io::{self, Write};
 use std::thread;
 use std::time::Duration;
@@ -13,22 +14,28 @@ pub const EVERY: u64 = 40;
 const PAUSE: Duration = Duration::from_millis(3);
 
 /// Where the input of a kind and seed is cut, in rising order: nowhere, or in
-/// its length, its sheet, its first call, anywhere later and between calls.
-pub fn cuts(kind: &Kind, seed: u64, input: &[u8]) -> Vec<usize> {
+/// its loading date, if it has one, its length, its sheet, its first call,
+/// anywhere later and between calls.
+pub fn cuts(loading: Loading, kind: &Kind, seed: u64, input: &[u8]) -> Vec<usize> {
     if !seed.is_multiple_of(EVERY) {
         return Vec::new();
     }
     // Other numbers than those that made the input.
     let mut random = kind.random(!seed);
-    let (sheet, calls) = desk::split(input).unwrap_or((input, &[]));
+    let date = loading.date_bytes();
+    let rest = input.get(date..).unwrap_or_default();
+    let (sheet, calls) = desk::split(rest).unwrap_or((rest, &[]));
     let start = input.len() - calls.len();
     let mut cuts = vec![
-        1,
-        3 + random.below(sheet.len().max(2) - 1),
+        date + 1,
+        date + 3 + random.below(sheet.len().max(2) - 1),
         start + 1 + random.below(CALL - 1),
         start + random.below(calls.len() + 1),
         start + CALL * random.below(calls.len() / CALL + 1),
     ];
+    if date > 1 {
+        cuts.push(1 + random.below(date - 1));
+    }
     cuts.retain(|&cut| cut < input.len());
     cuts.sort_unstable();
     cuts.dedup();

@@ -27,14 +27,15 @@ pub struct TimedAction {
     pub date: u32,
 }
 
-/// Where every run starts: the initial location, all readings 0, date 0.
-pub fn beginning(automaton: &Automaton) -> Reached {
+/// Where every run starts: the initial location, all readings 0 at the loading
+/// date.
+pub fn beginning(automaton: &Automaton, loaded: u32) -> Reached {
     Reached {
         configuration: Configuration {
             location: automaton.initial,
             valuation: [0; MAX_CLOCKS],
         },
-        date: 0,
+        date: loaded,
     }
 }
 
@@ -87,8 +88,8 @@ impl Reached {
     }
 }
 
-/// Whether a run satisfies the automaton.
-pub fn satisfies(automaton: &Automaton, run: &[TimedAction]) -> bool {
-    let end = beginning(automaton).follow(automaton, run);
+/// Whether a run of a box loaded at a date satisfies the automaton.
+pub fn satisfies(automaton: &Automaton, loaded: u32, run: &[TimedAction]) -> bool {
+    let end = beginning(automaton, loaded).follow(automaton, run);
     end.is_some_and(|reached| automaton.is_accepting(reached.configuration.location))
 }

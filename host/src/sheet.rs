@@ -1,7 +1,8 @@
 //! Reads the bytes of a sheet and checks them, I-1 to I-6 in that order,
-//! each check over the whole sheet before the next one starts.
+//! each check over the whole sheet before the next one starts. The loading
+//! date is checked after that.
 
-use crate::limits::{MAX_BOUND, MAX_TRANSITIONS};
+use crate::limits::{LAST_DATE, MAX_BOUND, MAX_TRANSITIONS};
 use crate::refusal::Refusal;
 
 /// Most locations of an automaton; the accepting set has a bit for each.
@@ -97,6 +98,15 @@ impl Automaton {
     pub fn is_accepting(&self, location: u8) -> bool {
         self.accepting >> location & 1 == 1
     }
+}
+
+/// Reads a sheet that is loaded at a date. Its own reasons come before I-8.
+pub fn load(sheet: &[u8], date: u32) -> Result<Automaton, Refusal> {
+    let automaton = read(sheet)?;
+    if date > LAST_DATE {
+        return Err(Refusal::I8);
+    }
+    Ok(automaton)
 }
 
 /// Reads a sheet, or gives the first reason against it.

@@ -20,6 +20,11 @@ impl Tally {
         }
     }
 
+    /// Counts something else, by its name.
+    pub fn note(&mut self, name: &str) {
+        *self.counts.entry(name.into()).or_default() += 1;
+    }
+
     /// How often a name occurred.
     pub fn count(&self, name: &str) -> u64 {
         self.counts.get(name).copied().unwrap_or(0)

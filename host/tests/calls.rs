@@ -377,8 +377,8 @@ fn reached_is_where_the_history_leads() {
         monitor.collect(date);
         let automaton = monitor.automaton();
         let run = run_of(&monitor);
-        let end = beginning(automaton).follow(automaton, &run);
+        let end = beginning(automaton, 0).follow(automaton, &run);
         assert_eq!(end, Some(monitor.reached()));
-        assert!(satisfies(automaton, &run));
+        assert!(satisfies(automaton, 0, &run));
     }
 }

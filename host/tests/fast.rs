@@ -2,15 +2,17 @@
 //! and on the benchmark's heaviest sheets.
 
 use host::bench::{KINDS as HEAVY, LOADING, SHORT, WORST};
-use host::desk::{run, run_with};
-use host::fast::Monitor;
+use host::desk::run_as;
 use host::generate::KINDS;
+use host::loading::Loading;
+use host::{fast, monitor};
 
 /// Seeds per kind; other ones than those of the gate, mostly.
 const SEEDS: std::ops::Range<u64> = 250..370;
 
-fn same(name: &str, input: &[u8]) {
-    let (expected, found) = (run(input), run_with::<Monitor>(input));
+fn same(name: &str, loading: Loading, input: &[u8]) {
+    let expected = run_as::<monitor::Monitor>(loading, input);
+    let found = run_as::<fast::Monitor>(loading, input);
     let mut lines = expected.lines().zip(found.lines());
     if let Some((expected, found)) = lines.find(|(expected, found)| expected != found) {
         panic!("{name}: {found} instead of {expected}");
@@ -22,7 +24,10 @@ fn same(name: &str, input: &[u8]) {
 fn same_lines_for_every_kind() {
     for kind in KINDS {
         for seed in SEEDS {
-            same(&format!("{}, seed {seed}", kind.name), &kind.input(seed));
+            let name = format!("{}, seed {seed}", kind.name);
+            for loading in [Loading::AtZero, Loading::AtDate] {
+                same(&name, loading, &kind.input_as(loading, seed));
+            }
         }
     }
 }
@@ -33,7 +38,7 @@ fn same_lines_in_the_benchmark() {
     let heavy = HEAVY.iter().chain(SHORT).chain(WORST).chain(LOADING);
     for kind in heavy.filter(|kind| kind.few > 2) {
         for input in kind.inputs(kind.short) {
-            same(kind.name, &input.whole);
+            same(kind.name, Loading::AtZero, &input.whole);
         }
     }
 }

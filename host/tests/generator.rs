@@ -376,7 +376,7 @@ struct Offers {
 /// Makes the calls of an input whose sheet loads.
 fn count_offers(input: &[u8], shown: &mut Offers) {
     let (bytes, calls) = desk::split(input).expect("there is a sheet");
-    let mut monitor = Monitor::new(sheet::read(bytes).expect("the sheet loads"));
+    let mut monitor = Monitor::new(sheet::read(bytes).expect("the sheet loads"), 0);
     // For each number the refused offers before it, and for each scheduled action
     // the date of the offer by which it was scheduled.
     let (mut refused, mut refused_before) = (0, vec![0]);

@@ -89,7 +89,7 @@ fn correction(monitor: &Monitor, action: u8, t: u32) -> Option<Vec<u32>> {
 fn check(input: &[u8]) -> (u32, usize) {
     let length = usize::from(u16::from_le_bytes([input[0], input[1]]));
     let automaton = sheet::read(&input[2..2 + length]).expect("the sheet loads");
-    let mut monitor = Monitor::new(automaton);
+    let mut monitor = Monitor::new(automaton, 0);
     let (mut found, mut longest) = (0, 0);
     for call in input[2 + length..].chunks_exact(5) {
         let date = u32::from_le_bytes([call[1], call[2], call[3], call[4]]);

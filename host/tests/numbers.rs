@@ -35,7 +35,7 @@ fn lists_and_singles() -> Vec<u8> {
 type Expected = (u8, u32, Answer);
 
 fn fresh<M: Calls>(bytes: &[u8]) -> M {
-    M::fresh(sheet::read(bytes).expect("the sheet loads"))
+    M::fresh(sheet::read(bytes).expect("the sheet loads"), 0)
 }
 
 fn call(calls: &mut impl Calls, first: u8, date: u32) -> Answer {

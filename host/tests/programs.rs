@@ -2,7 +2,7 @@
 
 mod common;
 
-use common::input;
+use common::{call_with, input, input_at};
 use host::compare::run;
 use host::course::A;
 use host::generate::{KINDS, ONCE};
@@ -38,6 +38,31 @@ fn lines_are_printed() {
 }
 
 #[test]
+fn lines_at_a_loading_date() {
+    let input = input_at(43_200, A, &[(0, 43_199), (1, 43_204), (1, 43_205)]);
+    let expected = "sheet 2 1 2 4 2\n1 refused S-1 lamp 0\n\
+        2 scheduled 1 43204 lamp 0\n3 scheduled 1 43209 lamp 0\n";
+    for program in [REFERENCE, FAST] {
+        let output = |input: &[u8]| text(&call_with(program, &["--at"], input).stdout);
+        assert_eq!(output(&input), expected);
+        assert_eq!(
+            output(&input_at(1_000_000_001, A, &[])),
+            "sheet refused I-8\n"
+        );
+        assert_eq!(output(&[0; 3]), "sheet refused I-1\n");
+    }
+}
+
+#[test]
+fn generate_writes_loading_dates() {
+    for kind in KINDS {
+        let output = call(GENERATE, &["--at", kind.name, "12"]);
+        assert!(output.status.success());
+        assert_eq!(output.stdout, kind.input_at(12));
+    }
+}
+
+#[test]
 fn generate_writes_inputs() {
     let list = text(&call(GENERATE, &["--list"]).stdout);
     assert!(list.lines().any(|line| line == "long_pending"));
@@ -51,9 +76,17 @@ fn generate_writes_inputs() {
 
 #[test]
 fn wrong_arguments() {
-    let cases: [(&str, &[&str]); 13] = [
+    let cases: [(&str, &[&str]); 21] = [
         (REFERENCE, &["extra"]),
+        (REFERENCE, &["--at", "5"]),
         (FAST, &["extra"]),
+        (FAST, &["--at", "--at"]),
+        (GENERATE, &["--at"]),
+        (GENERATE, &["--at", "--list"]),
+        (GENERATE, &["--at", "used_up", "1"]),
+        (COMPARE, &["--at"]),
+        (COMPARE, &["--at", "program"]),
+        (COMPARE, &["--at", REFERENCE, "1", "0", "used_up"]),
         (GENERATE, &[]),
         (GENERATE, &["one_clock"]),
         (GENERATE, &["no_such_kind", "1"]),
@@ -131,6 +164,25 @@ fn compare_with(name: &str, body: &str) -> String {
     let output = call(COMPARE, &[&path.to_string_lossy(), "20"]);
     assert_eq!(output.status.code(), Some(1));
     text(&output.stdout)
+}
+
+#[cfg(unix)]
+#[test]
+fn compare_with_loading_dates() {
+    let path = script("dated.sh", &format!("exec '{FAST}' --at"));
+    let output = call(COMPARE, &["--at", &path.to_string_lossy(), "3", "120"]);
+    let text = text(&output.stdout);
+    assert!(output.status.success(), "{text}");
+    let inputs = 3 * KINDS.len();
+    assert!(text.starts_with(&format!("no difference: {inputs} inputs, ")));
+    assert!(text.contains("  loading date 0\n") && text.contains("  sheet refused I-8\n"));
+    assert!(!text.contains("that use up the numbers"));
+    // A program that reads no date is seen, and one that wants a date where none is.
+    for (flags, program) in [(&["--at"][..], REFERENCE), (&[], &path.to_string_lossy())] {
+        let output = call(COMPARE, &[flags, &[program, "20"]].concat());
+        assert_eq!(output.status.code(), Some(1));
+        remove_input(&self::text(&output.stdout));
+    }
 }
 
 /// Where a comparison left the input that differs.

@@ -3,15 +3,18 @@
 
 mod common;
 
-use common::{input, COLLECT};
+use common::{call_with, input, input_at, COLLECT};
 use host::desk;
 use host::generate::KINDS;
-use host::question::{decode, encode, Checks};
+use host::limits::LAST_DATE;
+use host::loading::Loading;
+use host::monitor::Monitor;
+use host::question::{decode, decode_as, encode, loading, Checks};
 use host::random::Random;
 use host::refusal::Refusal;
 use host::sheet;
 use std::path::Path;
-use std::process::{Command, Output};
+use std::process::Output;
 
 const QUESTION: &str = env!("CARGO_BIN_EXE_question");
 
@@ -51,6 +54,9 @@ const BLOCK: &str = include_str!("../questions/block.txt");
 const TAIL: &str = include_str!("../questions/tail.txt");
 const LARGEST: &str = include_str!("../questions/largest.txt");
 const LONGEST: &str = include_str!("../questions/longest.txt");
+const MIDDAY: &str = include_str!("../questions/midday.txt");
+const AT_LIMIT: &str = include_str!("../questions/at_limit.txt");
+const LOADED_LATE: &str = include_str!("../questions/loaded_late.txt");
 
 /// Questions P1 to P10.
 const KEYED: [&str; 10] = [
@@ -82,7 +88,8 @@ fn unchecked(text: &str) -> Vec<u8> {
 /// The desk program's first line for a text about a refused sheet.
 fn refusal_of(text: &str) -> String {
     assert!(encode(text, Checks::All).is_err(), "{text}");
-    let lines = desk::run(&unchecked(text));
+    let loading = loading(text).expect("bytes can express the text");
+    let lines = desk::run_as::<Monitor>(loading, &unchecked(text));
     lines.lines().next().unwrap_or_default().to_string()
 }
 
@@ -168,6 +175,61 @@ fn file_of_the_longest_correction() {
 }
 
 #[test]
+fn files_with_loading_dates() {
+    let noon = 43_200;
+    let calls = [
+        (0, 5),
+        (COLLECT, noon - 1),
+        (0, noon + 5),
+        (COLLECT, noon + 8),
+        (1, noon + 8),
+        (COLLECT, noon + 8),
+        (COLLECT, noon + 10),
+        (COLLECT, noon + 10),
+    ];
+    assert_eq!(checked(MIDDAY), input_at(noon, C, &calls));
+    let last = LAST_DATE;
+    let calls = [
+        (COLLECT, last - 1),
+        (0, last + 1),
+        (1, last),
+        (1, last),
+        (0, last),
+        (COLLECT, last),
+        (COLLECT, last),
+        (COLLECT, last),
+    ];
+    assert_eq!(checked(AT_LIMIT), input_at(last, A, &calls));
+    let late = input_at(last + 1, A, &[(0, last + 1)]);
+    assert_eq!(unchecked(LOADED_LATE), late);
+    assert_eq!(refusal_of(LOADED_LATE), "sheet refused I-8");
+}
+
+#[test]
+fn files_with_loading_dates_get_their_keys() {
+    let expected = "sheet 3 1 2 2 1\n\
+        1 refused S-1 lamp 0\n\
+        2 refused S-1 lamp 0\n\
+        3 held 1 lamp 0\n\
+        4 none lamp 0\n\
+        5 scheduled 2 43208 lamp 1\n\
+        6 played 0 43208 1 43205 lamp 1\n\
+        7 played 1 43208 2 43208 lamp 1\n\
+        8 none lamp 1\n";
+    assert_eq!(desk::run_at(&checked(MIDDAY)), expected);
+    let expected = "sheet 2 1 2 4 2\n\
+        1 refused S-1 lamp 0\n\
+        2 refused I-8 lamp 0\n\
+        3 scheduled 1 1000000000 lamp 0\n\
+        4 refused S-2 lamp 0\n\
+        5 scheduled 1 1000000000 lamp 0\n\
+        6 played 1 1000000000 1 1000000000 lamp 0\n\
+        7 played 0 1000000000 2 1000000000 lamp 0\n\
+        8 none lamp 0\n";
+    assert_eq!(desk::run_at(&checked(AT_LIMIT)), expected);
+}
+
+#[test]
 fn files_get_their_keys() {
     let keys: [&[&str]; 10] = [
         &["scheduled 1 4 lamp 0", "scheduled 1 9 lamp 0"],
@@ -202,7 +264,9 @@ fn files_say_question_and_key() {
         assert!(text.starts_with(&format!("# P{number}: sheet ")));
         assert!(text.lines().any(|line| line.starts_with("# Key: ")));
     }
-    assert!(EXAMPLE.lines().any(|line| line.starts_with("# Key: ")));
+    for text in [EXAMPLE, MIDDAY, AT_LIMIT] {
+        assert!(text.lines().any(|line| line.starts_with("# Key: ")));
+    }
 }
 
 // The format.
@@ -249,6 +313,42 @@ fn canonical_text() {
 }
 
 #[test]
+fn canonical_text_with_a_loading_date() {
+    for (rules, calls) in [
+        ("", ""),
+        ("\nrule 0 -> 1 on 0\n", ""),
+        ("", "\ncollect at 7\n"),
+        ("\nrule 0 -> 1 on 0\n", "\noffer 1 at 7\ntail 0\n"),
+    ] {
+        let plain = format!("{HEADER}{rules}{calls}");
+        for date in [0, 7, LAST_DATE] {
+            let text = format!("{HEADER}{rules}\n loaded  at 0{date} # date\n{calls}");
+            let canonical = format!("{HEADER}{rules}\nloaded at {date}\n{calls}");
+            let bytes = checked(&text);
+            assert_eq!(bytes, [&date.to_le_bytes()[..], &checked(&plain)].concat());
+            let decoded = decode_as(Loading::AtDate, &bytes);
+            assert_eq!(decoded.as_ref(), Ok(&canonical));
+            assert_eq!(checked(&canonical), bytes);
+        }
+    }
+}
+
+#[test]
+fn programs_that_fit() {
+    for text in [A_TEXT, EXAMPLE, TAIL, KEYED[0]] {
+        assert_eq!(loading(text), Ok(Loading::AtZero));
+    }
+    for text in [MIDDAY, AT_LIMIT, LOADED_LATE] {
+        assert_eq!(loading(text), Ok(Loading::AtDate));
+    }
+    // Date 0 may be said too.
+    let text = format!("{HEADER}loaded at 0\n");
+    assert_eq!(loading(&text), Ok(Loading::AtDate));
+    assert_eq!(Loading::AtZero.program(), "desk");
+    assert_eq!(Loading::AtDate.program(), "desk_at");
+}
+
+#[test]
 fn no_accepting_location_and_no_rules() {
     let text = "locations 1\nclocks 2\ncommands 16\ninitial 0\naccepting none\n";
     let bytes = [1, 2, 16, 0, 0, 0, 10, 0, 0, 0];
@@ -292,23 +392,36 @@ fn sheet_in(input: &[u8]) -> Option<&[u8]> {
 
 /// Requires that an input comes back from its text, and without
 /// `--unchecked` exactly if its sheet loads.
-fn require_return(input: &[u8], text: &str) {
+fn require_return(begins: Loading, input: &[u8], text: &str) {
     assert_eq!(unchecked(text), input, "{text}");
-    let loads = sheet_in(input).is_some_and(|sheet| sheet::read(sheet).is_ok());
+    assert_eq!(loading(text), Ok(begins), "{text}");
+    let (date, rest) = begins.split(input).expect("the date is there");
+    let loads = sheet_in(rest).is_some_and(|sheet| sheet::load(sheet, date).is_ok());
     let result = encode(text, Checks::All);
     assert_eq!(result.is_ok(), loads, "{text}{result:?}");
     assert!(result.is_err() || result.as_deref() == Ok(input));
     assert_eq!(text.contains("encode with --unchecked"), !loads);
 }
 
+/// The input of a text, and the text of that.
+fn there_and_back(text: &str) -> (Vec<u8>, String) {
+    let bytes = unchecked(text);
+    let begins = loading(text).expect("bytes can express the text");
+    let canonical = decode_as(begins, &bytes).expect("the layout is good");
+    (bytes, canonical)
+}
+
 #[test]
 fn files_and_back() {
     let sheets = [A_TEXT, B_TEXT, C_TEXT, D_TEXT, E_TEXT];
-    let others = [EXAMPLE, BLOCK, TAIL, LARGEST];
+    let others = [EXAMPLE, BLOCK, TAIL, LARGEST, MIDDAY, AT_LIMIT, LOADED_LATE];
     for text in KEYED.into_iter().chain(sheets).chain(others) {
-        let bytes = checked(text);
-        let canonical = decode(&bytes).expect("the layout is good");
-        require_return(&bytes, &canonical);
+        let (bytes, canonical) = there_and_back(text);
+        require_return(
+            loading(text).expect("it has no mistake"),
+            &bytes,
+            &canonical,
+        );
         let said = |text: &str| {
             let lines = text.lines().filter(|line| !line.starts_with('#'));
             lines.map(String::from).collect::<Vec<_>>()
@@ -317,20 +430,27 @@ fn files_and_back() {
     }
 }
 
+/// Requires that an input comes back, or that its layout is a reason to give no
+/// text.
+fn require_back(begins: Loading, input: &[u8]) {
+    match decode_as(begins, input) {
+        Ok(text) => require_return(begins, input, &text),
+        Err(message) => {
+            let sheet = begins.split(input).and_then(|(_, rest)| sheet_in(rest));
+            let refusal = sheet.map(|sheet| sheet::read(sheet).err());
+            let refusal = refusal.unwrap_or(Some(Refusal::I1));
+            let layout = [Refusal::I1, Refusal::I2, Refusal::I3, Refusal::I4];
+            assert!(layout.map(Some).contains(&refusal), "{message}");
+        }
+    }
+}
+
 #[test]
 fn generated_inputs_and_back() {
     for kind in KINDS {
         for seed in 0..200 {
-            let input = kind.input(seed);
-            match decode(&input) {
-                Ok(text) => require_return(&input, &text),
-                Err(message) => {
-                    // Only the layout is a reason to give no text.
-                    let refusal = sheet_in(&input).map(|sheet| sheet::read(sheet).err());
-                    let refusal = refusal.unwrap_or(Some(Refusal::I1));
-                    let layout = [Refusal::I1, Refusal::I2, Refusal::I3, Refusal::I4];
-                    assert!(layout.map(Some).contains(&refusal), "{message}");
-                }
+            for begins in [Loading::AtZero, Loading::AtDate] {
+                require_back(begins, &kind.input_as(begins, seed));
             }
         }
     }
@@ -355,7 +475,7 @@ fn every_byte_of_a_good_layout() {
         let counts = [locations, clocks, actions, initial];
         let input = input(&common::sheet_of(counts, accepting, &tables), &[]);
         let text = decode(&input).expect("the layout is good");
-        require_return(&input, &text);
+        require_return(Loading::AtZero, &input, &text);
     }
 }
 
@@ -372,7 +492,8 @@ fn longest_sheet_and_back() {
 }
 
 /// Words for garbled texts.
-const WORDS: &str = "rule offer collect at when clock clocks from to and reset -> on none tail # \
+const WORDS: &str =
+    "rule loaded offer collect at when clock clocks from to and reset -> on none tail # \
     0 1 2 3 8 30 31 254 255 256 4294967296 x \n";
 
 /// A text with some of its words changed.
@@ -396,14 +517,13 @@ fn garbled_texts() {
     let mut random = Random::new(9);
     let mut good = 0;
     for _ in 0..20_000 {
-        let source = random.pick(&[A_TEXT, B_TEXT, EXAMPLE, KEYED[6]]);
+        let source = random.pick(&[A_TEXT, B_TEXT, EXAMPLE, KEYED[6], MIDDAY]);
         let text = garbled(&mut random, source);
         let lines = text.lines().count().max(1);
         match encode(&text, Checks::All) {
             Ok(input) => {
                 good += 1;
-                let text = decode(&input).expect("the layout is good");
-                require_return(&input, &text);
+                assert_eq!(input, unchecked(&text));
             }
             Err(mistakes) => {
                 assert!(!mistakes.is_empty());
@@ -411,9 +531,9 @@ fn garbled_texts() {
                 assert!(mistakes.is_sorted_by_key(|it| it.line));
             }
         }
-        if let Ok(input) = encode(&text, Checks::Bytes) {
-            let text = decode(&input).expect("the layout is good");
-            require_return(&input, &text);
+        if let Ok(begins) = loading(&text) {
+            let (input, canonical) = there_and_back(&text);
+            require_return(begins, &input, &canonical);
         }
     }
     assert!(good > 1000, "only {good} texts are good");
@@ -450,6 +570,12 @@ fn calls_before_the_header_is_complete() {
     require(&text, 5, &["before this call", "needs `accepting`"]);
     let text = HEADER.replace("clocks", "tail 1\nclocks");
     require(&text, 2, &["before this tail", "needs `clocks`"]);
+}
+
+#[test]
+fn loading_date_before_the_header_is_complete() {
+    let text = HEADER.replace("accepting", "loaded at 3\naccepting");
+    require(&text, 5, &["before this loading date", "needs `accepting`"]);
 }
 
 #[test]
@@ -731,13 +857,67 @@ fn rule_after_a_call() {
     require(&text, 7, &["rules come before the calls", "line 6"]);
 }
 
+// Mistakes in the loading date.
+
+#[test]
+fn loading_date_out_of_place() {
+    let text = format!("{HEADER}collect at 3\nloaded at 3\n");
+    let words = [
+        "the loading date comes before the calls",
+        "line 6 is a call",
+    ];
+    require(&text, 7, &words);
+    let text = format!("{HEADER}loaded at 3\nrule 0 -> 1 on 0\n");
+    let words = ["rules come before the loading date", "line 6"];
+    require(&text, 7, &words);
+    require_with(Checks::Bytes, &text, 7, &words);
+}
+
+#[test]
+fn loading_date_twice() {
+    let words = ["`loaded` is repeated", "line 6"];
+    let text = format!("{HEADER}loaded at 3\n\nloaded at 3\n");
+    require(&text, 8, &words);
+    require_with(Checks::Bytes, &text, 8, &words);
+    // Also if the first is wrong.
+    let text = format!("{HEADER}loaded at noon\nloaded at 3\n");
+    let mistakes = encode(&text, Checks::All).expect_err("the text has mistakes");
+    let lines: Vec<usize> = mistakes.iter().map(|mistake| mistake.line).collect();
+    assert_eq!(lines, [6, 7]);
+}
+
+#[test]
+fn loading_date_too_late() {
+    let text = |date| format!("{HEADER}loaded at {date}\n");
+    checked(&text(1_000_000_000u32));
+    for date in [1_000_000_001, u32::MAX] {
+        let message = format!("loading date {date} is out of range");
+        require(&text(date), 6, &[&message, "0 to 1000000000"]);
+        assert_eq!(unchecked(&text(date))[..4], date.to_le_bytes());
+        assert_eq!(refusal_of(&text(date)), "sheet refused I-8");
+    }
+    let words = ["date 4294967296", "32 bits", "4294967295"];
+    require_always("loaded at 4294967296", &words);
+}
+
+#[test]
+fn loading_date_that_is_none() {
+    require_always("loaded at noon", &["`noon` is no number", "a date"]);
+    require_always("loaded on 3", &["`on` is out of place", "`at`"]);
+    require_always("loaded 3", &["`3` is out of place", "`at`"]);
+    require_always("loaded at 3 4", &["`4` is out of place", "end of the line"]);
+    for line in ["loaded", "loaded at"] {
+        require_always(line, &["the line ends after", "is expected there"]);
+    }
+}
+
 // Mistakes in calls.
 
 #[test]
 fn unknown_statement() {
     require_always(
         "ofer 1 at 3",
-        &["`ofer` begins no line", "`offer`", "`rule`"],
+        &["`ofer` begins no line", "`offer`", "`rule`", "`loaded`"],
     );
     require_always("Offer 1 at 3", &["`Offer` begins no line"]);
     require_always("\u{fffd}\0", &["begins no line"]);
@@ -797,7 +977,9 @@ fn wrong_tail() {
 
 #[test]
 fn statements_after_the_tail() {
-    for statement in ["offer 0 at 1", "collect at 1", "tail 1", "rule 0 -> 1 on 0"] {
+    let calls = ["offer 0 at 1", "collect at 1"];
+    let others = ["tail 1", "rule 0 -> 1 on 0", "loaded at 1"];
+    for statement in calls.into_iter().chain(others) {
         let text = format!("{HEADER}tail 1\n{statement}\n");
         require(&text, 7, &["nothing comes after the tail", "line 6"]);
     }
@@ -864,6 +1046,32 @@ fn text_of_a_refused_sheet() {
 }
 
 #[test]
+fn text_of_a_late_loading_date() {
+    let remark = |refusal| format!("# Refused for {refusal} by the desk program: ");
+    let text = |date, sheet: &[u8]| {
+        let text = decode_as(Loading::AtDate, &input_at(date, sheet, &[]));
+        text.expect("the layout is good")
+    };
+    let late = LAST_DATE + 1;
+    assert!(text(late, A).starts_with(&remark("I-8")));
+    assert!(text(late, A).ends_with("\n\nloaded at 1000000001\n"));
+    assert!(text(LAST_DATE, A).starts_with("locations 2\n"));
+    // The sheet's own reason comes first.
+    let wrong = common::sheet_of([1, 1, 0, 0], 1, &[&[]]);
+    assert!(text(late, &wrong).starts_with(&remark("I-2")));
+}
+
+#[test]
+fn loading_dates_that_no_text_gives() {
+    let whole = input_at(3, A, &[]);
+    for (length, words) in [(3, "four bytes of the loading date"), (5, "two bytes")] {
+        let message = decode_as(Loading::AtDate, &whole[..length]);
+        let message = message.expect_err("no text gives this");
+        assert!(message.contains(words), "{message}");
+    }
+}
+
+#[test]
 fn layouts_that_no_text_gives() {
     require_no_text(&[], &["two bytes"]);
     require_no_text(&[42], &["two bytes"]);
@@ -902,17 +1110,7 @@ fn require_no_text(input: &[u8], words: &[&str]) {
 // The program.
 
 fn call(arguments: &[&str], input: &[u8]) -> Output {
-    use std::io::Write;
-    use std::process::Stdio;
-    let mut command = Command::new(QUESTION);
-    command.args(arguments).stdin(Stdio::piped());
-    command.stdout(Stdio::piped()).stderr(Stdio::piped());
-    let mut child = command.spawn().expect("the program runs");
-    let mut stdin = child.stdin.take().expect("its input is open");
-    // It may end without reading all of its input.
-    let _ = stdin.write_all(input);
-    drop(stdin);
-    child.wait_with_output().expect("the program ends")
+    call_with(QUESTION, arguments, input)
 }
 
 /// Writes a file and gives its path.
@@ -945,6 +1143,41 @@ fn program_converts_both_ways() {
 }
 
 #[test]
+fn program_converts_loading_dates_both_ways() {
+    let (bytes, text) = there_and_back(MIDDAY);
+    let path = file("midday.txt", MIDDAY.as_bytes());
+    assert_eq!(call(&["encode", &path], &[]).stdout, bytes);
+    let path = file("midday.bin", &bytes);
+    for output in [
+        call(&["decode", "--at"], &bytes),
+        call(&["decode", "--at", &path], &[]),
+    ] {
+        assert_eq!(output.stdout, text.as_bytes());
+        assert!(output.status.success() && output.stderr.is_empty());
+    }
+}
+
+#[test]
+fn program_names_the_program_that_fits() {
+    let refused = include_str!("../questions/refused.txt");
+    for (text, name) in [
+        (EXAMPLE, "desk\n"),
+        (refused, "desk\n"),
+        (MIDDAY, "desk_at\n"),
+        (LOADED_LATE, "desk_at\n"),
+    ] {
+        let path = file(&format!("fits-{}.txt", text.len()), text.as_bytes());
+        for output in [
+            call(&["program"], text.as_bytes()),
+            call(&["program", &path], &[]),
+        ] {
+            assert_eq!(output.stdout, name.as_bytes());
+            assert!(output.status.success() && output.stderr.is_empty());
+        }
+    }
+}
+
+#[test]
 fn program_reports_mistakes() {
     let text = format!("{HEADER}# caf\u{e9}\nrule 0 -> 7 on 0\noffer x at 1\n");
     let path = file("mistakes.txt", text.as_bytes());
@@ -955,7 +1188,15 @@ fn program_reports_mistakes() {
         ),
         (call(&["encode", &path], &[]), "mistakes.txt, line 8: "),
         (
+            call(&["program"], text.as_bytes()),
+            "standard input, line 8: ",
+        ),
+        (
             call(&["decode"], &[9, 0, 1]),
+            "standard input: no text gives this",
+        ),
+        (
+            call(&["decode", "--at"], &[9, 0, 1]),
             "standard input: no text gives this",
         ),
     ];
@@ -989,8 +1230,13 @@ fn program_reads_comments_of_any_bytes() {
 
 #[test]
 fn program_with_wrong_arguments() {
-    let cases: [&[&str]; 9] = [
+    let cases: [&[&str]; 14] = [
         &[],
+        &["encode", "--at"],
+        &["decode", "--at", "--at"],
+        &["decode", "--at", "one", "two"],
+        &["program", "--at"],
+        &["program", "one", "two"],
         &["compile"],
         &["encode", "--fast"],
         &["encode", "one", "two"],

@@ -6,6 +6,8 @@ mod common;
 use common::{bare_answer, first_call};
 use host::desk::{self, CALL};
 use host::generate::BLOCK;
+use host::loading::Loading;
+use host::monitor::Monitor;
 use host::question::{encode, Checks};
 use std::fs;
 use std::ops::Range;
@@ -57,7 +59,12 @@ fn outputs_are_what_is_printed() {
     assert!(desks.len() >= 9, "{desks:?}");
     for name in desks {
         let stored = read(crates().join(&name).join("stdout"));
-        let printed = desk::run(&stored_input(&name));
+        let loading = if name.starts_with(Loading::AtDate.program()) {
+            Loading::AtDate
+        } else {
+            Loading::AtZero
+        };
+        let printed = desk::run_as::<Monitor>(loading, &stored_input(&name));
         assert_eq!(String::from_utf8_lossy(&stored), printed, "{name}");
     }
 }

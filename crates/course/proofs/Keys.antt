@@ -7,7 +7,7 @@ use Prim.Native.Nat.{ℕ}
 use native.Mathlib.Omega.{arith}
 use Rattle.enforcement.specs.Automaton.{Bytes, Automaton, automaton, transitions, transitionsOver}
 use Rattle.enforcement.specs.TimedWord.{Event, stamp, fireFirst}
-use Rattle.enforcement.specs.Loading.{Bounded, Loads, Checked, check, accepted, refused, sizePasses, headerPasses, initialPasses, pairsPass, layoutPasses, fits, allFit, overlap, overlapsNone, disjoint, disjointOver}
+use Rattle.enforcement.specs.Loading.{Bounded, WellFormed, Checked, check, accepted, refused, sizePasses, headerPasses, initialPasses, pairsPass, layoutPasses, fits, allFit, overlap, overlapsNone, disjoint, disjointOver}
 use Rattle.enforcement.specs.History.{Slot, wordOf, HistoryOf, Outcome, place}
 use Rattle.enforcement.specs.Constraints.{playedOf}
 use Rattle.enforcement.specs.Model.{compile, cells, look, memo, tabled, steps, waits, tower, reads, ended, plan, successors, explore, reaches}
@@ -23,9 +23,9 @@ abbrev accepts : Checked → Bool
 accepts (accepted k) = true
 accepts (refused r) = false
 
-accepts-loads : (s : Bytes) → accepts (check s) ≡ true → Loads s
-accepts-loads s e = elim (loading.check-right s .one-of) [
-  | inl x ↦ loading.check-loads s x
+accepts-loads : (s : Bytes) → accepts (check s 0) ≡ true → WellFormed s
+accepts-loads s e = elim (loading.check-right s 0 .one-of) [
+  | inl x ↦ loading.check-loads s 0 x
   | inr x ↦ let z : _≡_ {A = ℕ} 0 1 = (let y : true ≡ false = sym e ∙ ap accepts (x .1) in cc) in absurd (omega arith)
 ]
 
@@ -40,9 +40,9 @@ record Worked : Type 0 where
 
 worked : Question → Worked
 worked q =
-    let z : Replayed = calls (automaton (q .sheet)) (q .before) in
-    let y : Replayed = replay (compile (automaton (q .sheet))) (z .monitor) (q .calls) in
-    record { loads = accepts (check (q .sheet)); answers = y .outcomes; before = wordOf (z .monitor .schedule); after = wordOf (y .monitor .schedule); played-before = playedOf (z .outcomes); played = playedOf (z .outcomes ++ y .outcomes) }
+    let z : Replayed = calls (automaton (q .sheet) 0) (q .before) in
+    let y : Replayed = replay (compile (q .sheet)) (z .monitor) (q .calls) in
+    record { loads = accepts (check (q .sheet) 0); answers = y .outcomes; before = wordOf (z .monitor .schedule); after = wordOf (y .monitor .schedule); played-before = playedOf (z .outcomes); played = playedOf (z .outcomes ++ y .outcomes) }
 
 -- The same where the key is right, nothing is played, and es were scheduled before.
 abbrev expected : Question → List Event → Worked
@@ -52,7 +52,7 @@ expected q es = record { loads = true; answers = q .answers; before = es; after 
 key : (q : Question) (es : List Event) → worked q ≡ expected q es → KeyRight q
 unfolding worked
 key q es e =
-    let 𝒜 : Automaton = automaton (q .sheet) in
+    let 𝒜 : Automaton = automaton (q .sheet) 0 in
     let bounded : Bounded (q .sheet) = loading.bounded (q .sheet) (accepts-loads (q .sheet) (ap (λ (w : Worked). w .loads) e)) in
     let z = model.right 𝒜 bounded (q .before) in
     let y = model.follows 𝒜 bounded (q .calls) (z .history) (calls 𝒜 (q .before) .monitor) (z .stands) in

@@ -16,13 +16,13 @@ pub record Question : Type 0 where
   pub answers : List Outcome
   pub events : List Event
 
--- The key is what the history says.
+-- The key is what the history of the sheet, loaded at date 0, says.
 pub record KeyRight (q : Question) : Type 0 where
   pub answers-before : List Outcome
   pub history-before : History
-  pub recorded-before : HistoryOf (automaton (q .sheet)) (fresh (automaton (q .sheet))) (q .before) answers-before history-before
+  pub recorded-before : HistoryOf (automaton (q .sheet) 0) (fresh (automaton (q .sheet) 0)) (q .before) answers-before history-before
   pub history : History
-  pub recorded : HistoryOf (automaton (q .sheet)) history-before (q .calls) (q .answers) history
+  pub recorded : HistoryOf (automaton (q .sheet) 0) history-before (q .calls) (q .answers) history
   pub events-are : wordOf (history .scheduled) ≡ wordOf (history-before .scheduled) ++ q .events
 
 abbrev pub AllRight : List Question → Type 0

@@ -10,11 +10,11 @@ sheetA = 2 ∷ 1 ∷ 2 ∷ 0 ∷ 3 ∷ 0 ∷ 14 ∷ 0 ∷ 14 ∷ 0 ∷ 28 ∷ 0 
 abbrev pub sheetB : Bytes
 sheetB = 3 ∷ 1 ∷ 2 ∷ 0 ∷ 4 ∷ 0 ∷ 18 ∷ 0 ∷ 7 ∷ 0 ∷ 25 ∷ 0 ∷ 7 ∷ 0 ∷ 32 ∷ 0 ∷ 0 ∷ 0 ∷ 0 ∷ 1 ∷ 1 ∷ 0 ∷ 255 ∷ 0 ∷ 255 ∷ 1 ∷ 2 ∷ 0 ∷ 10 ∷ 15 ∷ 0 ∷ 255 ∷ []
 
--- Command 0 up to date 8, then command 1 up to date 20.
+-- Command 0 up to reading 8, then command 1 up to reading 20.
 abbrev pub sheetC : Bytes
 sheetC = 3 ∷ 1 ∷ 2 ∷ 0 ∷ 4 ∷ 0 ∷ 18 ∷ 0 ∷ 7 ∷ 0 ∷ 25 ∷ 0 ∷ 7 ∷ 0 ∷ 32 ∷ 0 ∷ 0 ∷ 0 ∷ 0 ∷ 1 ∷ 0 ∷ 0 ∷ 8 ∷ 0 ∷ 255 ∷ 1 ∷ 2 ∷ 0 ∷ 0 ∷ 20 ∷ 0 ∷ 255 ∷ []
 
--- Command 0, then command 1 from date 10 on.
+-- Command 0, then command 1 from reading 10 on.
 abbrev pub sheetD : Bytes
 sheetD = 3 ∷ 1 ∷ 2 ∷ 0 ∷ 4 ∷ 0 ∷ 18 ∷ 0 ∷ 7 ∷ 0 ∷ 25 ∷ 0 ∷ 7 ∷ 0 ∷ 32 ∷ 0 ∷ 0 ∷ 0 ∷ 0 ∷ 1 ∷ 0 ∷ 0 ∷ 255 ∷ 0 ∷ 255 ∷ 1 ∷ 2 ∷ 0 ∷ 10 ∷ 255 ∷ 0 ∷ 255 ∷ []
 

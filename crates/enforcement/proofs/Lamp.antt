@@ -47,7 +47,7 @@ some-next m p (suc n) e = go (isDead (prospect m (n ∷ []) p)) refl e (λ k. so
     go true x y f = let r = f y in (r .0, omega (arith, r .1), r .2)
     go false x y f = (n, omega arith, x)
 
-module _ (𝒜 : Automaton) (bounded : Bounded (𝒜 .bytes)) (m : Compiled) (mine : CompiledFrom 𝒜 m) (w : List Event) (last : ℕ) (q : Configuration) (reaches : Reaches 𝒜 w last q) (t : ℕ) where
+module _ (𝒜 : Automaton) (bounded : Bounded (𝒜 .bytes)) (m : Compiled) (mine : CompiledFrom (𝒜 .bytes) m) (w : List Event) (last : ℕ) (q : Configuration) (reaches : Reaches 𝒜 w last q) (t : ℕ) where
   abbrev standing : Configuration
   standing = standingAt 𝒜 last q t
 
@@ -61,7 +61,7 @@ module _ (𝒜 : Automaton) (bounded : Bounded (𝒜 .bytes)) (m : Compiled) (mi
     some-more = tt;
     accepts = o .accepts;
     from-t = monotone-rest t last cs (o .dates) (o .further) c (o .timing .each) (o .timing .from-t)
-        (Runs.run-monotone (step 𝒜) (Accepting 𝒜) (stamp (c ∷ cs) (o .dates) ++ o .further) last q (split 𝒜 w (stamp (c ∷ cs) (o .dates) ++ o .further) last q reaches (o .accepts)));
+        (Runs.run-monotone (step (𝒜 .bytes)) (Accepting 𝒜) (stamp (c ∷ cs) (o .dates) ++ o .further) last q (split 𝒜 w (stamp (c ∷ cs) (o .dates) ++ o .further) last q reaches (o .accepts)));
   }
 
   pub continues-open : (c : ℕ) (cs : List ℕ) → Continues 𝒜 w t (c ∷ cs) → Extensible 𝒜 w t (c ∷ cs)
@@ -82,7 +82,7 @@ module _ (𝒜 : Automaton) (bounded : Bounded (𝒜 .bytes)) (m : Compiled) (mi
         known = (h, k);
         some-more = tt;
         accepts = x;
-        from-t = (d .from-t .0, Runs.run-monotone (step 𝒜) (Accepting 𝒜) (record { action = c; date = e } ∷ v) last q (split 𝒜 w (record { action = c; date = e } ∷ v) last q reaches x) .1);
+        from-t = (d .from-t .0, Runs.run-monotone (step (𝒜 .bytes)) (Accepting 𝒜) (record { action = c; date = e } ∷ v) last q (split 𝒜 w (record { action = c; date = e } ∷ v) last q reaches x) .1);
       }
 
   pub continues-next : Continues 𝒜 w t [] → (c : ℕ) × (c < actions (𝒜 .bytes)) × Extensible 𝒜 w t (c ∷ [])

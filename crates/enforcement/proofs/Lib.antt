@@ -25,3 +25,6 @@ pub mod Numbers
 pub mod Histories
 pub mod Model
 pub mod Promises
+pub mod Clocks
+pub mod Shifting
+pub mod Shifts

@@ -10,21 +10,21 @@ use native.Mathlib.Nat.{eq-or-lt-of-le}
 use lib.Dec.{T, leb, ltb}
 use lib.ListN.{length, getD}
 use lib.Count.{ones}
-use Rattle.enforcement.specs.Limits.{maxCount, maxTransitions, maxSize}
+use Rattle.enforcement.specs.Limits.{maxCount, maxTransitions, maxDate, maxSize}
 use Rattle.enforcement.specs.Automaton.{Bytes, word, locations, actions, clocks, initial, accepting, allTransitions}
 use Rattle.enforcement.specs.Reason.{Reason, I-1, I-2, I-3, I-4, I-5, I-6, I-7, I-8, S-1, S-2, S-3, S-4, S-5, number}
-use Rattle.enforcement.specs.Loading.{HeaderFits, BitBeyond, Layout, AllFit, Holds, Given, Loads, countsOf, Checked, accepted, refused, sizePasses, headerPasses, initialPasses, layoutPasses, allFit, disjointOver, unless, check, CheckRight, Bounded, Deterministic}
+use Rattle.enforcement.specs.Loading.{HeaderFits, BitBeyond, Layout, AllFit, Holds, Given, Loads, WellFormed, countsOf, Checked, accepted, refused, sizePasses, headerPasses, initialPasses, layoutPasses, allFit, disjointOver, unless, check, CheckRight, Bounded, Deterministic}
 use Rattle.enforcement.proofs.Tests.{Tests, Finds, leb-tests, leb-finds, ltb-finds, both-tests, both-finds, tests-same, finds-same, finds-not, sure}
 use Rattle.enforcement.proofs.Bits.{bit-beyond, bit-large, countBelow, ones-count}
 use Rattle.enforcement.proofs.Pairs.{layout-tests}
 use Rattle.enforcement.proofs.Fitting.{all-fit-tests, all-bounded}
 use Rattle.enforcement.proofs.Overlaps.{overlap-finds}
 
--- ---- The tests of I-1 to I-4; those of I-5 and I-6 are in Fitting.antt and Overlaps.antt.
+-- ---- The tests of I-1 to I-4; that of I-8 is a comparison, and those of I-5 and I-6 are in Fitting.antt and Overlaps.antt.
 
-size-finds : (s : Bytes) → Finds (sizePasses s) (Holds I-1 s)
+size-finds : (s : Bytes) (d : ℕ) → Finds (sizePasses s) (Holds I-1 s d)
 unfolding sizePasses Holds
-size-finds s = both-finds (leb-finds 6 (length s)) (leb-finds (length s) maxSize)
+size-finds s d = both-finds (leb-finds 6 (length s)) (leb-finds (length s) maxSize)
 
 header-tests : (s : Bytes) → Tests (headerPasses s) (HeaderFits s)
 unfolding headerPasses
@@ -40,13 +40,13 @@ header-tests s =
 bits-finds : (s : Bytes) → Finds (ltb (word s 4) (2 ^ locations s)) (BitBeyond s)
 bits-finds s = finds-same (bit-beyond (locations s) (word s 4)) (λ h. bit-large (locations s) (word s 4) (h .0) (h .1) (h .2)) (ltb-finds (word s 4) (2 ^ locations s))
 
-initial-finds : (s : Bytes) → Finds (initialPasses s) (Holds I-3 s)
+initial-finds : (s : Bytes) (d : ℕ) → Finds (initialPasses s) (Holds I-3 s d)
 unfolding initialPasses Holds
-initial-finds s = both-finds (ltb-finds (initial s) (locations s)) (bits-finds s)
+initial-finds s d = both-finds (ltb-finds (initial s) (locations s)) (bits-finds s)
 
-layout-finds : (s : Bytes) → Finds (layoutPasses s) (Holds I-4 s)
+layout-finds : (s : Bytes) (d : ℕ) → Finds (layoutPasses s) (Holds I-4 s d)
 unfolding layoutPasses Holds
-layout-finds s = both-finds (leb-finds (6 + 4 * locations s) (length s)) (both-finds (finds-not (layout-tests s)) (leb-finds (length (allTransitions s)) maxTransitions))
+layout-finds s d = both-finds (leb-finds (6 + 4 * locations s) (length s)) (both-finds (finds-not (layout-tests s)) (leb-finds (length (allTransitions s)) maxTransitions))
 
 -- ---- The reasons in order
 
@@ -73,55 +73,61 @@ number-same : (q r : Reason) → number q ≡ number r → q ≡ r
 number-same q r e = sym (named-number q) ∙ ap named e ∙ named-number r
 
 -- No reason numbered below n has its condition.
-abbrev Before : ℕ → Bytes → Type 0
-Before n s = (q : Reason) → number q < n → Holds q s → ⊥
+abbrev Before : ℕ → Bytes → ℕ → Type 0
+Before n s d = (q : Reason) → number q < n → Holds q s d → ⊥
 
 -- An answer that is right.
-data Right (s : Bytes) : Checked → Type 0 where
-  loads : Loads s → Right s (accepted (countsOf s))
-  refuses : (r : Reason) → Given r s → Right s (refused r)
+data Right (s : Bytes) (d : ℕ) : Checked → Type 0 where
+  loads : Loads s d → Right s d (accepted (countsOf s))
+  refuses : (r : Reason) → Given r s d → Right s d (refused r)
 
 -- One test of the chain: it answers, or those after it do.
-unless-right : (s : Bytes) (b : Bool) (r : Reason) (k : Checked) → Finds b (Holds r s) → Before (number r) s → (b ≡ true → Before (suc (number r)) s → Right s k) → Right s (unless b r k)
-unless-right s true r k f h g = g refl (λ q a c. elim (eq-or-lt-of-le a) [ inl e ↦ f .passes refl (subst (λ (x : Reason). Holds x s) (number-same q r (omega arith)) c) | inr e ↦ h q (omega arith) c ])
-unless-right s false r k f h g = refuses r (record { holds = f .fails refl; none-earlier = h })
+unless-right : (s : Bytes) (d : ℕ) (b : Bool) (r : Reason) (k : Checked) → Finds b (Holds r s d) → Before (number r) s d → (b ≡ true → Before (suc (number r)) s d → Right s d k) → Right s d (unless b r k)
+unless-right s d true r k f h g = g refl (λ q a c. elim (eq-or-lt-of-le a) [ inl e ↦ f .passes refl (subst (λ (x : Reason). Holds x s d) (number-same q r (omega arith)) c) | inr e ↦ h q (omega arith) c ])
+unless-right s d false r k f h g = refuses r (record { holds = f .fails refl; none-earlier = h })
 
-none-left : (s : Bytes) → Before 7 s → Loads s
+none-left : (s : Bytes) (d : ℕ) → Before 9 s d → Loads s d
 unfolding Holds
-none-left s h I-1 = h I-1 (omega arith)
-none-left s h I-2 = h I-2 (omega arith)
-none-left s h I-3 = h I-3 (omega arith)
-none-left s h I-4 = h I-4 (omega arith)
-none-left s h I-5 = h I-5 (omega arith)
-none-left s h I-6 = h I-6 (omega arith)
-none-left s h I-7 = λ x. x
-none-left s h I-8 = λ x. x
-none-left s h S-1 = λ x. x
-none-left s h S-2 = λ x. x
-none-left s h S-3 = λ x. x
-none-left s h S-4 = λ x. x
-none-left s h S-5 = λ x. x
+none-left s d h I-1 = h I-1 (omega arith)
+none-left s d h I-2 = h I-2 (omega arith)
+none-left s d h I-3 = h I-3 (omega arith)
+none-left s d h I-4 = h I-4 (omega arith)
+none-left s d h I-5 = h I-5 (omega arith)
+none-left s d h I-6 = h I-6 (omega arith)
+none-left s d h I-7 = λ x. x
+none-left s d h I-8 = h I-8 (omega arith)
+none-left s d h S-1 = λ x. x
+none-left s d h S-2 = λ x. x
+none-left s d h S-3 = λ x. x
+none-left s d h S-4 = λ x. x
+none-left s d h S-5 = λ x. x
 
-none-first : (s : Bytes) → Before (number I-1) s
-none-first s q h =
+none-first : (s : Bytes) (d : ℕ) → Before (number I-1) s d
+none-first s d q h =
     let e : number q ≡ 0 = omega arith in
     let k : number I-1 ≡ number q = ap number (ap named (sym e) ∙ named-number q) in
     absurd (omega arith)
 
-check-is : (s : Bytes) → Right s (check s)
+-- I-7 is no reason of a load.
+none-seventh : (s : Bytes) (d : ℕ) → Before (number I-7) s d → Before (number I-8) s d
+unfolding Holds
+none-seventh s d h q a c = elim (eq-or-lt-of-le a) [ inl e ↦ subst (λ (x : Reason). Holds x s d) (number-same q I-7 (omega arith)) c | inr e ↦ h q (omega arith) c ]
+
+check-is : (s : Bytes) (d : ℕ) → Right s d (check s d)
 unfolding check Holds
-check-is s =
-    unless-right s (sizePasses s) I-1 _ (size-finds s) (none-first s) λ a1 b1.
-    unless-right s (headerPasses s) I-2 _ (finds-not (header-tests s)) b1 λ a2 b2.
-    unless-right s (initialPasses s) I-3 _ (initial-finds s) b2 λ a3 b3.
-    unless-right s (layoutPasses s) I-4 _ (layout-finds s) b3 λ a4 b4.
-    unless-right s (allFit s (allTransitions s)) I-5 _ (finds-not (all-fit-tests s (allTransitions s))) b4 λ a5 b5.
-    unless-right s (disjointOver s (locations s) 0) I-6 _ (overlap-finds s (all-fit-tests s (allTransitions s) .passes a5)) b5 λ a6 b6.
-    loads (none-left s b6)
+check-is s d =
+    unless-right s d (sizePasses s) I-1 _ (size-finds s d) (none-first s d) λ a1 b1.
+    unless-right s d (headerPasses s) I-2 _ (finds-not (header-tests s)) b1 λ a2 b2.
+    unless-right s d (initialPasses s) I-3 _ (initial-finds s d) b2 λ a3 b3.
+    unless-right s d (layoutPasses s) I-4 _ (layout-finds s d) b3 λ a4 b4.
+    unless-right s d (allFit s (allTransitions s)) I-5 _ (finds-not (all-fit-tests s (allTransitions s))) b4 λ a5 b5.
+    unless-right s d (disjointOver s (locations s) 0) I-6 _ (overlap-finds s d (all-fit-tests s (allTransitions s) .passes a5)) b5 λ a6 b6.
+    unless-right s d (leb d maxDate) I-8 _ (leb-finds d maxDate) (none-seventh s d b6) λ a8 b8.
+    loads (none-left s d b8)
 
 -- Two reasons do not both come first.
-given-same : (s : Bytes) (q r : Reason) → Given q s → Given r s → q ≡ r
-given-same s q r g h =
+given-same : (s : Bytes) (d : ℕ) (q r : Reason) → Given q s d → Given r s d → q ≡ r
+given-same s d q r g h =
     let a : ¬ (number q < number r) = λ k. h .none-earlier q k (g .holds) in
     let b : ¬ (number r < number q) = λ k. g .none-earlier r k (h .holds) in
     number-same q r (omega arith)
@@ -129,70 +135,96 @@ given-same s q r g h =
 answers-differ : (s : Bytes) (r : Reason) {A : Type 0} → accepted (countsOf s) ≡ refused r → A
 answers-differ s r e = let z : _≡_ {A = ℕ} 0 1 = cc in absurd (omega arith)
 
-refused-given : (s : Bytes) (k : Checked) → Right s k → (r : Reason) → (k ≡ refused r) ↔ Given r s
-refused-given s k (loads h) r = (answers-differ s r, λ g. absurd (h r (g .holds)))
-refused-given s k (refuses q h) r = (λ e. let z : q ≡ r = cc in subst (λ (x : Reason). Given x s) z h, λ g. ap refused (given-same s q r h g))
+refused-given : (s : Bytes) (d : ℕ) (k : Checked) → Right s d k → (r : Reason) → (k ≡ refused r) ↔ Given r s d
+refused-given s d k (loads h) r = (answers-differ s r, λ g. absurd (h r (g .holds)))
+refused-given s d k (refuses q h) r = (λ e. let z : q ≡ r = cc in subst (λ (x : Reason). Given x s d) z h, λ g. ap refused (given-same s d q r h g))
 
-accepted-loads : (s : Bytes) (k : Checked) → Right s k → (k ≡ accepted (countsOf s)) ↔ Loads s
-accepted-loads s k (loads h) = (λ e. h, λ e. refl)
-accepted-loads s k (refuses q h) = (λ e. answers-differ s q (sym e), λ l. absurd (l q (h .holds)))
+accepted-loads : (s : Bytes) (d : ℕ) (k : Checked) → Right s d k → (k ≡ accepted (countsOf s)) ↔ Loads s d
+accepted-loads s d k (loads h) = (λ e. h, λ e. refl)
+accepted-loads s d k (refuses q h) = (λ e. answers-differ s q (sym e), λ l. absurd (l q (h .holds)))
 
-either-answer : (s : Bytes) (k : Checked) → Right s k → (k ≡ accepted (countsOf s)) ⊎ ((r : Reason) × (k ≡ refused r))
-either-answer s k (loads h) = inl refl
-either-answer s k (refuses q h) = inr (q, refl)
+either-answer : (s : Bytes) (d : ℕ) (k : Checked) → Right s d k → (k ≡ accepted (countsOf s)) ⊎ ((r : Reason) × (k ≡ refused r))
+either-answer s d k (loads h) = inl refl
+either-answer s d k (refuses q h) = inr (q, refl)
 
-pub check-right : (s : Bytes) → CheckRight s
-check-right s = record { refuses = refused-given s (check s) (check-is s); accepts = accepted-loads s (check s) (check-is s); one-of = either-answer s (check s) (check-is s) }
+pub check-right : (s : Bytes) (d : ℕ) → CheckRight s d
+check-right s d = record { refuses = refused-given s d (check s d) (check-is s d); accepts = accepted-loads s d (check s d) (check-is s d); one-of = either-answer s d (check s d) (check-is s d) }
 
--- ---- A sheet that loads
+-- ---- A sheet that loads, and one that is well-formed
+
+module _ (s : Bytes) (d : ℕ) where
+  pub loads-check : Loads s d → check s d ≡ accepted (countsOf s)
+  loads-check = check-right s d .accepts .1
+
+  pub check-loads : check s d ≡ accepted (countsOf s) → Loads s d
+  check-loads = check-right s d .accepts .0
+
+  -- Where a sheet loads at one date, it loads at every other up to the last one.
+  loads-at : (e : ℕ) → e ≤ maxDate → Loads s d → Loads s e
+  unfolding Holds
+  loads-at e k h I-1 = h I-1
+  loads-at e k h I-2 = h I-2
+  loads-at e k h I-3 = h I-3
+  loads-at e k h I-4 = h I-4
+  loads-at e k h I-5 = h I-5
+  loads-at e k h I-6 = h I-6
+  loads-at e k h I-7 = h I-7
+  loads-at e k h I-8 = λ x. absurd (omega arith)
+  loads-at e k h S-1 = h S-1
+  loads-at e k h S-2 = h S-2
+  loads-at e k h S-3 = h S-3
+  loads-at e k h S-4 = h S-4
+  loads-at e k h S-5 = h S-5
+
+-- A sheet loads at a date exactly when it has no refusal of its own and the date is not above the last one.
+pub loads-is : (s : Bytes) (d : ℕ) → Loads s d ↔ (WellFormed s × (d ≤ maxDate))
+unfolding Holds
+loads-is s d = (λ h. (loads-at s d 0 (omega arith) h, let a : ¬ (maxDate < d) = λ k. h I-8 k in omega arith), λ h. loads-at s 0 d (h .1) (h .0))
+
+pub loads-formed : (s : Bytes) (d : ℕ) → Loads s d → WellFormed s
+loads-formed s d h = loads-is s d .0 h .0
 
 module _ (s : Bytes) where
-  pub loads-check : Loads s → check s ≡ accepted (countsOf s)
-  loads-check = check-right s .accepts .1
-
-  pub check-loads : check s ≡ accepted (countsOf s) → Loads s
-  check-loads = check-right s .accepts .0
-
-  pub size-fits : Loads s → (6 ≤ length s) × (length s ≤ maxSize)
+  pub size-fits : WellFormed s → (6 ≤ length s) × (length s ≤ maxSize)
   unfolding Holds
   size-fits h =
       let a : ¬ (length s < 6) = λ k. h I-1 (inl k) in
       let b : ¬ (maxSize < length s) = λ k. h I-1 (inr k) in
       (omega arith, omega arith)
 
-  pub header : Loads s → HeaderFits s
+  pub header : WellFormed s → HeaderFits s
   unfolding Holds
   header h = sure (header-tests s) (h I-2)
 
-  pub initial-fits : Loads s → initial s < locations s
+  pub initial-fits : WellFormed s → initial s < locations s
   unfolding Holds
   initial-fits h = let a : ¬ (locations s ≤ initial s) = λ k. h I-3 (inl k) in omega arith
 
   -- An accepting location is one of the sheet's.
-  pub accepting-fits : Loads s → (l : ℕ) → T (accepting s l) → l < locations s
+  pub accepting-fits : WellFormed s → (l : ℕ) → T (accepting s l) → l < locations s
   unfolding Holds
   accepting-fits h l t = let a : ¬ (locations s ≤ l) = λ k. h I-3 (inr (l, k, t)) in omega arith
 
-  pub layout : Loads s → Layout s
+  pub layout : WellFormed s → Layout s
   unfolding Holds
   layout h = sure (layout-tests s) (λ k. h I-4 (inr (inl k)))
 
-  pub pairs-fit : Loads s → 6 + 4 * locations s ≤ length s
+  pub pairs-fit : WellFormed s → 6 + 4 * locations s ≤ length s
   unfolding Holds
   pairs-fit h = let a : ¬ (length s < 6 + 4 * locations s) = λ k. h I-4 (inl k) in omega arith
 
-  pub transitions-fit : Loads s → length (allTransitions s) ≤ maxTransitions
+  pub transitions-fit : WellFormed s → length (allTransitions s) ≤ maxTransitions
   unfolding Holds
   transitions-fit h = let a : ¬ (maxTransitions < length (allTransitions s)) = λ k. h I-4 (inr (inr k)) in omega arith
 
-  pub all-fit : Loads s → AllFit s (allTransitions s)
+  pub all-fit : WellFormed s → AllFit s (allTransitions s)
   unfolding Holds
   all-fit h = sure (all-fit-tests s (allTransitions s)) (h I-5)
 
-  pub bounded : Loads s → Bounded s
+  pub bounded : WellFormed s → Bounded s
   bounded h = all-bounded s (all-fit h)
 
-  pub deterministic : Loads s → Deterministic s
+  pub deterministic : WellFormed s → Deterministic s
   unfolding Holds Deterministic
   deterministic h l k = h I-6 (l, k)
 
@@ -200,7 +232,7 @@ module _ (s : Bytes) where
   abbrev pub countAccepting : ℕ → ℕ
   countAccepting n = countBelow (accepting s) n
 
-  pub accepting-counted : Loads s → ones (word s 4) ≡ countAccepting (locations s)
+  pub accepting-counted : WellFormed s → ones (word s 4) ≡ countAccepting (locations s)
   unfolding Holds
   accepting-counted h =
       let a : ¬ (2 ^ locations s ≤ word s 4) = λ k. h I-3 (inr (bit-beyond (locations s) (word s 4) k)) in

@@ -4,7 +4,7 @@ use mathlib.Core.Option.{Option, none, some}
 use Prim.Native.Nat.{ℕ, zero, suc, _+_}
 use native.Mathlib.Nat.{add-zero, zero-add, add-suc, suc-add}
 use lib.ListN.{getElem?}
-use Rattle.enforcement.specs.Automaton.{Automaton, transitions, locations}
+use Rattle.enforcement.specs.Automaton.{Bytes, transitions, locations}
 use Rattle.enforcement.specs.TimedWord.{Configuration, step, fireFirst}
 use Rattle.enforcement.specs.Model.{cells, look, memo, tabled, steps, width}
 
@@ -30,6 +30,6 @@ tabled-is n f p =
     ∙ ap (λ g. g (p .y)) (memo-is width (λ x. memo width (λ y. f (record { location = p .location; x = x; y = y }))) (p .x))
     ∙ memo-is width (λ y. f (record { location = p .location; x = p .x; y = y })) (p .y)
 
-pub steps-is : (𝒜 : Automaton) (c : ℕ) (p : Configuration) → steps 𝒜 c p ≡ step 𝒜 c p
+pub steps-is : (s : Bytes) (c : ℕ) (p : Configuration) → steps s c p ≡ step s c p
 unfolding steps step
-steps-is 𝒜 c p = ap (λ ts. fireFirst ts c p) (memo-is (locations (𝒜 .bytes)) (transitions (𝒜 .bytes)) (p .location))
+steps-is s c p = ap (λ ts. fireFirst ts c p) (memo-is (locations s) (transitions s) (p .location))

@@ -50,28 +50,28 @@ module _ (𝒜 : Automaton) (bounded : Bounded (𝒜 .bytes)) where
     reaches = (refl, refl);
     configuration-is = refl;
     numbered-is = refl;
-    lamp-is = lamp-right 𝒜 bounded (compile 𝒜) (compiled 𝒜 bounded) [] (𝒜 .loaded) (origin 𝒜) (refl, refl) (𝒜 .loaded) [];
+    lamp-is = lamp-right 𝒜 bounded (compile (𝒜 .bytes)) (compiled (𝒜 .bytes) bounded) [] (𝒜 .loaded) (origin 𝒜) (refl, refl) (𝒜 .loaded) [];
   }
 
   -- On a monitor that stands for a history, a call answers as the history.
-  pub answers : (ℋ : History) (b : Monitor) → StandsFor 𝒜 b ℋ → (k : Call) → Demand2 𝒜 ℋ k (answer (compile 𝒜) b k)
-  answers = Simulation.answer-right 𝒜 bounded (compile 𝒜) (compiled 𝒜 bounded)
+  pub answers : (ℋ : History) (b : Monitor) → StandsFor 𝒜 b ℋ → (k : Call) → Demand2 𝒜 ℋ k (answer (compile (𝒜 .bytes)) b k)
+  answers = Simulation.answer-right 𝒜 bounded (compile (𝒜 .bytes)) (compiled (𝒜 .bytes) bounded)
 
   -- So does a list of calls.
-  pub follows : (ks : List Call) (ℋ : History) (b : Monitor) → StandsFor 𝒜 b ℋ → Follows 𝒜 ℋ ks (replay (compile 𝒜) b ks)
-  follows = Simulation.replay-right 𝒜 bounded (compile 𝒜) (compiled 𝒜 bounded)
+  pub follows : (ks : List Call) (ℋ : History) (b : Monitor) → StandsFor 𝒜 b ℋ → Follows 𝒜 ℋ ks (replay (compile (𝒜 .bytes)) b ks)
+  follows = Simulation.replay-right 𝒜 bounded (compile (𝒜 .bytes)) (compiled (𝒜 .bytes) bounded)
 
   -- For every list of calls from a fresh monitor: the outcomes are the history's, and the monitor stands for it.
   pub right : (ks : List Call) → Follows 𝒜 (fresh 𝒜) ks (calls 𝒜 ks)
   right ks = follows ks (fresh 𝒜) (freshMonitor 𝒜) fresh-stands
 
   -- The lamp of a monitor that stands for a history is the one by the rule.
-  pub lamp-rule : (ℋ : History) (b : Monitor) → StandsFor 𝒜 b ℋ → b .lit ≡ lampLit (compile 𝒜) b
-  lamp-rule = Simulation.lamp-rule 𝒜 bounded (compile 𝒜) (compiled 𝒜 bounded)
+  pub lamp-rule : (ℋ : History) (b : Monitor) → StandsFor 𝒜 b ℋ → b .lit ≡ lampLit (compile (𝒜 .bytes)) b
+  lamp-rule = Simulation.lamp-rule 𝒜 bounded (compile (𝒜 .bytes)) (compiled (𝒜 .bytes) bounded)
 
   decides : (ℋ : History) (b : Monitor) → StandsFor 𝒜 b ℋ → (t : ℕ) → Decides 𝒜 (wordOf (ℋ .scheduled)) t
   unfolding Decides
-  decides ℋ b s t cs n = correctable 𝒜 bounded (compile 𝒜) (compiled 𝒜 bounded) (wordOf (ℋ .scheduled)) (b .last) (s .exact) (s .reaches) t cs n
+  decides ℋ b s t cs n = correctable 𝒜 bounded (compile (𝒜 .bytes)) (compiled (𝒜 .bytes) bounded) (wordOf (ℋ .scheduled)) (b .last) (s .exact) (s .reaches) t cs n
 
   -- After a list of calls, the lamp rule says dark exactly when one more action can be scheduled.
   pub dark-is : (ks : List Call) → Dark 𝒜 (right ks .history) ↔ Schedulable 𝒜 (right ks .history)

@@ -10,7 +10,7 @@ use native.Mathlib.Omega.{arith}
 use native.Mathlib.Nat.{eq-or-lt-of-le}
 use lib.Dec.{T, leb, eqb}
 use Rattle.enforcement.specs.Limits.{maxBound}
-use Rattle.enforcement.specs.Automaton.{Bytes, automaton, locations, Transition, transitions, allTransitions, within, enabled}
+use Rattle.enforcement.specs.Automaton.{Bytes, locations, Transition, transitions, allTransitions, within, enabled}
 use Rattle.enforcement.specs.TimedWord.{Configuration, fire, fireFirst, step}
 use Rattle.enforcement.specs.Reason.{I-6}
 use Rattle.enforcement.specs.Loading.{Bounds, Fits, AllFit, Overlap, OverlapsOne, OverlapIn, Holds, overlap, overlapsNone, disjoint, disjointOver, Bounded, Deterministic}
@@ -74,9 +74,9 @@ over-finds s (suc n) l h e = finds-same here there (both-finds (disjoint-finds s
     there : (k : ℕ) × (l ≤ k) × OverlapIn (transitions s k) → OverlapIn (transitions s l) ⊎ ((k : ℕ) × (suc l ≤ k) × OverlapIn (transitions s k))
     there m = elim (eq-or-lt-of-le (m .1)) [ inl q ↦ inl (subst (λ (k : ℕ). OverlapIn (transitions s k)) (sym q) (m .2)) | inr q ↦ inr (m .0, q, m .2) ]
 
-pub overlap-finds : (s : Bytes) → AllFit s (allTransitions s) → Finds (disjointOver s (locations s) 0) (Holds I-6 s)
+pub overlap-finds : (s : Bytes) (d : ℕ) → AllFit s (allTransitions s) → Finds (disjointOver s (locations s) 0) (Holds I-6 s d)
 unfolding Holds
-overlap-finds s h = finds-same (λ m. (m .0, m .2)) (λ m. (m .0, omega arith, m .1)) (over-finds s (locations s) 0 (all-bounded s h) (omega arith))
+overlap-finds s d h = finds-same (λ m. (m .0, m .2)) (λ m. (m .0, omega arith, m .1)) (over-finds s (locations s) 0 (all-bounded s h) (omega arith))
 
 -- ---- At most one is enabled
 
@@ -112,6 +112,6 @@ only-fires (u ∷ us) t ws d p h = go (eqb (u .action) (t .action) && enabled u 
     go false f r = r
 
 pub only-step : (s : Bytes) → Deterministic s → (l : ℕ) (p : Configuration) → p .location ≡ l → (us : List Transition) (t : Transition) (ws : List Transition) → transitions s l ≡ us ++ (t ∷ ws)
-    → T (enabled t (p .x) (p .y)) → step (automaton s) (t .action) p ≡ some (fire t p)
+    → T (enabled t (p .x) (p .y)) → step s (t .action) p ≡ some (fire t p)
 unfolding step Deterministic
 only-step s d l p q us t ws e h = ap (λ (k : ℕ). fireFirst (transitions s k) (t .action) p) q ∙ ap (λ (ts : List Transition). fireFirst ts (t .action) p) e ∙ only-fires us t ws (λ k. d l (subst OverlapIn (sym e) k)) p h

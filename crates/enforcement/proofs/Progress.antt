@@ -26,7 +26,7 @@ run-after-monotone st P (e ∷ w) v d p h = Runs.found-show (st (e .action) (ela
 
 pub monotone-after : (𝒜 : Automaton) (w v : List Event) → Accepts 𝒜 (w ++ v) → Monotone (lastDate 𝒜 w) (datesOf v)
 unfolding Accepts
-monotone-after 𝒜 w v h = run-after-monotone (step 𝒜) (Accepting 𝒜) w v (𝒜 .loaded) (origin 𝒜) h
+monotone-after 𝒜 w v h = run-after-monotone (step (𝒜 .bytes)) (Accepting 𝒜) w v (𝒜 .loaded) (origin 𝒜) h
 
 dates-stamp : (cs ds : List ℕ) (v : List Event) → length ds ≡ length cs → datesOf (stamp cs ds ++ v) ≡ ds ++ datesOf v
 unfolding stamp

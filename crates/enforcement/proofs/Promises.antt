@@ -33,20 +33,20 @@ module _ (𝒜 : Automaton) (bounded : Bounded (𝒜 .bytes)) where
   exhausted ks more e =
       let z = Model.right 𝒜 bounded ks in
       let y = Model.follows 𝒜 bounded more (z .history) (calls 𝒜 ks .monitor) (z .stands) in
-      subst⁻¹ Exhausted (Model.replay-append (compile 𝒜) ks more (freshMonitor 𝒜))
+      subst⁻¹ Exhausted (Model.replay-append (compile (𝒜 .bytes)) ks more (freshMonitor 𝒜))
       (record {
         history = y .history;
         stands = y .stands;
-        not-dark = history-lit 𝒜 (z .history) (y .history) more (replay (compile 𝒜) (calls 𝒜 ks .monitor) more .outcomes) (Model.lit-shows (z .stands) e) (y .recorded);
+        not-dark = history-lit 𝒜 (z .history) (y .history) more (replay (compile (𝒜 .bytes)) (calls 𝒜 ks .monitor) more .outcomes) (Model.lit-shows (z .stands) e) (y .recorded);
       })
 
   exhausted-lit : (b : Monitor) → Exhausted b → b .lit ≡ true
   exhausted-lit b x = Model.not-dark-lit (x .stands) (x .not-dark)
 
-  pub exhausted-drops : (b : Monitor) → Exhausted b → (c t : ℕ) → Admitted 𝒜 b c t → answer (compile 𝒜) b (offer c t) .outcome ≡ dropped
+  pub exhausted-drops : (b : Monitor) → Exhausted b → (c t : ℕ) → Admitted 𝒜 b c t → answer (compile (𝒜 .bytes)) b (offer c t) .outcome ≡ dropped
   exhausted-drops b x c t i =
       let r = Model.answers 𝒜 bounded (x .history) b (x .stands) (offer c t) in
-      lit-drops 𝒜 (x .history) (r .history) c t (answer (compile 𝒜) b (offer c t) .outcome) (x .not-dark)
+      lit-drops 𝒜 (x .history) (r .history) c t (answer (compile (𝒜 .bytes)) b (offer c t) .outcome) (x .not-dark)
       (record { known = i .known; early = i .early; current = subst (λ (d : ℕ). d ≤ t) (x .stands .date-is) (i .current); countable = subst (λ (n : ℕ). n < maxNumbered) (x .stands .numbered-is) (i .countable) }) (r .answers)
 
 pub model-demand-3 : (𝒜 : Automaton) → Bounded (𝒜 .bytes) → ModelDemand3All 𝒜
@@ -67,5 +67,7 @@ model-demand-3 𝒜 bounded ks =
       drops = λ e more c t i. exhausted-drops 𝒜 bounded (calls 𝒜 (ks ++ more) .monitor) (exhausted 𝒜 bounded ks more e) c t i;
     }
 
-pub promised : (s : Bytes) → Loads s → Promised s
-promised s l = record { demand-2 = demand-2 (automaton s) (Loading.bounded s l); demand-3 = model-demand-3 (automaton s) (Loading.bounded s l); constraints = enforcement (automaton s); numbers = numbers (automaton s) }
+pub promised : (s : Bytes) (d : ℕ) → Loads s d → Promised s d
+promised s d l =
+    let b : Bounded s = Loading.bounded s (Loading.loads-formed s d l) in
+    record { demand-2 = demand-2 (automaton s d) b; demand-3 = model-demand-3 (automaton s d) b; constraints = enforcement (automaton s d); numbers = numbers (automaton s d) }

@@ -9,7 +9,7 @@ use native.Mathlib.Omega.{arith}
 use lib.Dec.{eqb}
 use borrow.Author.Tests.{eqb-true}
 use Rattle.enforcement.specs.Limits.{maxBound}
-use Rattle.enforcement.specs.Automaton.{Automaton, Bytes, Transition, transitions, within, enabled, bit, clocks}
+use Rattle.enforcement.specs.Automaton.{Bytes, Transition, transitions, within, enabled, bit, clocks}
 use Rattle.enforcement.specs.TimedWord.{Configuration, elapse, fire, fireFirst, step}
 use Rattle.enforcement.specs.Loading.{Bounds, OneClock, Fits, AllFit, Bounded}
 use Rattle.enforcement.specs.Model.{top, saturated, oneClock, advance, headroom}
@@ -140,7 +140,7 @@ module _ (s : Bytes) (one : Bool) (one-is : one ≡ true → clocks s ≡ 1) whe
       go true e = ap some (fire-saturated t p (h .0))
       go false e = e
 
-pub step-saturated : (𝒜 : Automaton) → Bounded (𝒜 .bytes) → Saturates (oneClock 𝒜) (step 𝒜)
+pub step-saturated : (s : Bytes) → Bounded s → Saturates (oneClock s) (step s)
 unfolding step Bounded
-step-saturated 𝒜 h c p =
-    first-saturated (𝒜 .bytes) (oneClock 𝒜) (λ e. eqb-true (clocks (𝒜 .bytes)) 1 e) (transitions (𝒜 .bytes) (p .location)) (h (p .location)) c p
+step-saturated s h c p =
+    first-saturated s (oneClock s) (λ e. eqb-true (clocks s) 1 e) (transitions s (p .location)) (h (p .location)) c p

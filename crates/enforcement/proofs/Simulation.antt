@@ -29,13 +29,13 @@ use Rattle.enforcement.proofs.Lamp.{lamp-right}
 
 -- The monitor that stands for a history, where everything ever scheduled reaches the date last and the configuration q, with the lamp x.
 abbrev pub monitorOf : Automaton → History → ℕ → Configuration → Bool → Monitor
-monitorOf 𝒜 ℋ last q x = record { date = ℋ .date; pending = ℋ .pending; schedule = schedule ℋ; configuration = saturated (oneClock 𝒜) q; last = last; numbered = ℋ .numbered; lit = x }
+monitorOf 𝒜 ℋ last q x = record { date = ℋ .date; pending = ℋ .pending; schedule = schedule ℋ; configuration = saturated (oneClock (𝒜 .bytes)) q; last = last; numbered = ℋ .numbered; lit = x }
 
 pub joined-nonEmpty : (rs : List Request) (r : Request) → NonEmpty (actionsOf (rs ++ (r ∷ [])))
 joined-nonEmpty [] r = tt
 joined-nonEmpty (q ∷ rs) r = tt
 
-module _ (𝒜 : Automaton) (bounded : Bounded (𝒜 .bytes)) (m : Compiled) (mine : CompiledFrom 𝒜 m) (ℋ : History) (played-fits : ℋ .played ≤ length (ℋ .scheduled)) (last : ℕ) (q : Configuration) (reaches : Reaches 𝒜 (wordOf (ℋ .scheduled)) last q) (shines : Bool) (lamp-is : (shines ≡ false) ↔ Dark 𝒜 ℋ) where
+module _ (𝒜 : Automaton) (bounded : Bounded (𝒜 .bytes)) (m : Compiled) (mine : CompiledFrom (𝒜 .bytes) m) (ℋ : History) (played-fits : ℋ .played ≤ length (ℋ .scheduled)) (last : ℕ) (q : Configuration) (reaches : Reaches 𝒜 (wordOf (ℋ .scheduled)) last q) (shines : Bool) (lamp-is : (shines ≡ false) ↔ Dark 𝒜 ℋ) where
   abbrev monitor : Monitor
   monitor = monitorOf 𝒜 ℋ last q shines
 
@@ -203,7 +203,7 @@ pub record Follows (𝒜 : Automaton) (ℋ : History) (ks : List Call) (z : Repl
   pub recorded : HistoryOf 𝒜 ℋ ks (z .outcomes) history
   pub stands : StandsFor 𝒜 (z .monitor) history
 
-module _ (𝒜 : Automaton) (bounded : Bounded (𝒜 .bytes)) (m : Compiled) (mine : CompiledFrom 𝒜 m) where
+module _ (𝒜 : Automaton) (bounded : Bounded (𝒜 .bytes)) (m : Compiled) (mine : CompiledFrom (𝒜 .bytes) m) where
   pub answer-right : (ℋ : History) (b : Monitor) → StandsFor 𝒜 b ℋ → (k : Call) → Demand2 𝒜 ℋ k (answer m b k)
   answer-right ℋ b s k =
       subst⁻¹ (λ (z : Monitor). Demand2 𝒜 ℋ k (answer m z k)) (stands-is 𝒜 ℋ b s) (answer-of 𝒜 bounded m mine ℋ (s .played-fits) (b .last) (s .exact) (s .reaches) (b .lit) (s .lamp-is) k)

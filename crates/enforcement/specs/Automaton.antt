@@ -16,9 +16,9 @@ pub record Automaton : Type 0 where
   pub bytes : Bytes
   pub loaded : ℕ
 
--- The automaton of a sheet: clocks read 0 at date 0.
-abbrev pub automaton : Bytes → Automaton
-automaton s = record { bytes = s; loaded = 0 }
+-- The automaton of a sheet that is loaded at a date.
+abbrev pub automaton : Bytes → ℕ → Automaton
+automaton s d = record { bytes = s; loaded = d }
 
 abbrev pub byte : Bytes → ℕ → ℕ
 byte s i = getD s i 0

@@ -16,7 +16,7 @@ use Rattle.enforcement.specs.Monitor.{Monitor, freshMonitor, Answered, a
 
 -- A timed word takes the automaton from its start to the date last and the configuration q.
 abbrev pub Reaches : Automaton → List Event → ℕ → Configuration → Type 0
-Reaches a w last q = Run (step a) (λ e r. (e ≡ last) × (r ≡ q)) (a .loaded) (origin a) w
+Reaches a w last q = Run (step (a .bytes)) (λ e r. (e ≡ last) × (r ≡ q)) (a .loaded) (origin a) w
 
 -- The monitor stands for the history: the same date, pending actions and schedule, with their numbers and offered dates, as many offers numbered, the configuration and date that everything ever scheduled reaches, and a lamp that is dark exactly when document 01's
 -- rule says so.
@@ -27,7 +27,7 @@ pub record StandsFor (a : Automaton) (b : Monitor) (h : History) : Type 0 where
   pub played-fits : h .played ≤ length (h .scheduled)
   pub exact : Configuration
   pub reaches : Reaches a (wordOf (h .scheduled)) (b .last) exact
-  pub configuration-is : b .configuration ≡ saturated (oneClock a) exact
+  pub configuration-is : b .configuration ≡ saturated (oneClock (a .bytes)) exact
   pub numbered-is : b .numbered ≡ h .numbered
   pub lamp-is : (b .lit ≡ false) ↔ Dark a h
 
@@ -38,13 +38,13 @@ pub record Demand2 (a : Automaton) (h : History) (k : Call) (r : Answered) : Typ
   pub stands : StandsFor a (r .monitor) history
 
 unfoldable pub Demand2All : Automaton → Type 0
-Demand2All a = (h : History) (b : Monitor) → StandsFor a b h → (k : Call) → Demand2 a h k (answer (compile a) b k)
+Demand2All a = (h : History) (b : Monitor) → StandsFor a b h → (k : Call) → Demand2 a h k (answer (compile (a .bytes)) b k)
 
 -- ---- Demand 3
 
 -- A list of calls on a fresh monitor.
 abbrev pub calls : Automaton → List Call → Replayed
-calls a ks = replay (compile a) (freshMonitor a) ks
+calls a ks = replay (compile (a .bytes)) (freshMonitor a) ks
 
 -- The stored lamp after a list of calls.
 abbrev pub lampAfter : Automaton → List Call → Bool
@@ -68,17 +68,17 @@ pub record ModelDemand3 (a : Automaton) (ks : List Call) : Type 0 where
   pub lit-is : (lampAfter a ks ≡ true) ↔ (Schedulable a history → ⊥)
   pub dark-is : (lampAfter a ks ≡ false) ↔ Schedulable a history
   pub rule-is : Dark a history ↔ Schedulable a history
-  pub answers-lamp : answer (compile a) (calls a ks .monitor) lamp .outcome ≡ cond (lampAfter a ks) lit dark
+  pub answers-lamp : answer (compile (a .bytes)) (calls a ks .monitor) lamp .outcome ≡ cond (lampAfter a ks) lit dark
   pub stays-lit : lampAfter a ks ≡ true → (more : List Call) → lampAfter a (ks ++ more) ≡ true
-  pub drops : lampAfter a ks ≡ true → (more : List Call) (c t : ℕ) → Admitted a (calls a (ks ++ more) .monitor) c t → answer (compile a) (calls a (ks ++ more) .monitor) (offer c t) .outcome ≡ dropped
+  pub drops : lampAfter a ks ≡ true → (more : List Call) (c t : ℕ) → Admitted a (calls a (ks ++ more) .monitor) c t → answer (compile (a .bytes)) (calls a (ks ++ more) .monitor) (offer c t) .outcome ≡ dropped
 
 unfoldable pub ModelDemand3All : Automaton → Type 0
 ModelDemand3All a = (ks : List Call) → ModelDemand3 a ks
 
--- ---- What is promised of every sheet that loads
+-- ---- What is promised of every sheet and loading date that are accepted
 
-pub record Promised (s : Bytes) : Type 0 where
-  pub demand-2 : Demand2All (automaton s)
-  pub demand-3 : ModelDemand3All (automaton s)
-  pub constraints : Enforcement (automaton s)
-  pub numbers : Numbers (automaton s)
+pub record Promised (s : Bytes) (d : ℕ) : Type 0 where
+  pub demand-2 : Demand2All (automaton s d)
+  pub demand-3 : ModelDemand3All (automaton s d)
+  pub constraints : Enforcement (automaton s d)
+  pub numbers : Numbers (automaton s d)

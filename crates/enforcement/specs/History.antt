@@ -1,4 +1,4 @@
--- The history of a list of calls (the book of document 01, with numbers by request F-2 of document 02): what each call answers and does, by the automaton and the calls alone.
+-- The history of a list of calls (the book of document 01, with numbers by request F-2 and the loading date by F-5 of document 02): what each call answers and does, by the automaton and the calls alone.
 use mathlib.Core.Path.{_≡_}
 use mathlib.Core.List.{List, [], _∷_, _++_, map}
 use Prim.Native.Nat.{ℕ, suc, _-_, _≤_, _<_}

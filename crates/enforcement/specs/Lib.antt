@@ -2,6 +2,7 @@ pub mod Limits
 pub mod Automaton
 pub mod Comparison
 pub mod TimedWord
+pub mod Clocks
 pub mod Reason
 pub mod Loading
 pub mod History
@@ -10,3 +11,4 @@ pub mod Numbers
 pub mod Model
 pub mod Monitor
 pub mod Demands
+pub mod Shift

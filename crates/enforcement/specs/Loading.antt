@@ -1,4 +1,4 @@
--- The check of a sheet at loading (document 01): the condition of each refusal, what the check answers, and what an accepted sheet gives.
+-- The check of a sheet and its loading date (document 01, and request F-5 of document 02): the condition of each refusal, what the check answers, and what an accepted sheet gives.
 use mathlib.Core.Path.{_≡_}
 use mathlib.Core.Bool.{Bool, true, false, _&&_, _||_, not}
 use mathlib.Core.List.{List, [], _∷_}
@@ -7,7 +7,7 @@ use Prim.Native.Nat.{ℕ, zero, suc, _+_, _*_, _%_, _^_, _≤_, _<_}
 use lib.Dec.{T, leb, ltb, eqb}
 use lib.ListN.{length}
 use lib.Count.{ones}
-use Rattle.enforcement.specs.Limits.{maxCount, maxBound, maxTransitions, maxSize}
+use Rattle.enforcement.specs.Limits.{maxCount, maxBound, maxTransitions, maxDate, maxSize}
 use Rattle.enforcement.specs.Automaton.{Bytes, word, locations, clocks, actions, initial, accepting, bit, offset, size, Transition, transitions, allTransitions, enabled}
 use Rattle.enforcement.specs.Reason.{Reason, I-1, I-2, I-3, I-4, I-5, I-6, I-7, I-8, S-1, S-2, S-3, S-4, S-5, number}
 
@@ -81,30 +81,34 @@ OverlapIn (t ∷ ts) = OverlapsOne t ts ⊎ OverlapIn ts
 
 -- ---- When the load refuses
 
--- The condition of each reason. The load has the first six.
-unfoldable pub Holds : Reason → Bytes → Type 0
-Holds I-1 s = (length s < 6) ⊎ (maxSize < length s)
-Holds I-2 s = HeaderFits s → ⊥
-Holds I-3 s = (locations s ≤ initial s) ⊎ BitBeyond s
-Holds I-4 s = (length s < 6 + 4 * locations s) ⊎ ((Layout s → ⊥) ⊎ (maxTransitions < length (allTransitions s)))
-Holds I-5 s = AllFit s (allTransitions s) → ⊥
-Holds I-6 s = (l : ℕ) × OverlapIn (transitions s l)
-Holds I-7 s = ⊥
-Holds I-8 s = ⊥
-Holds S-1 s = ⊥
-Holds S-2 s = ⊥
-Holds S-3 s = ⊥
-Holds S-4 s = ⊥
-Holds S-5 s = ⊥
+-- The condition of each reason, of a sheet and the date at which it is loaded. The load has the first six, and I-8.
+unfoldable pub Holds : Reason → Bytes → ℕ → Type 0
+Holds I-1 s d = (length s < 6) ⊎ (maxSize < length s)
+Holds I-2 s d = HeaderFits s → ⊥
+Holds I-3 s d = (locations s ≤ initial s) ⊎ BitBeyond s
+Holds I-4 s d = (length s < 6 + 4 * locations s) ⊎ ((Layout s → ⊥) ⊎ (maxTransitions < length (allTransitions s)))
+Holds I-5 s d = AllFit s (allTransitions s) → ⊥
+Holds I-6 s d = (l : ℕ) × OverlapIn (transitions s l)
+Holds I-7 s d = ⊥
+Holds I-8 s d = maxDate < d
+Holds S-1 s d = ⊥
+Holds S-2 s d = ⊥
+Holds S-3 s d = ⊥
+Holds S-4 s d = ⊥
+Holds S-5 s d = ⊥
 
 -- The reason's condition holds, and no earlier one does.
-pub record Given (r : Reason) (s : Bytes) : Type 0 where
-  pub holds : Holds r s
-  pub none-earlier : (q : Reason) → number q < number r → Holds q s → ⊥
+pub record Given (r : Reason) (s : Bytes) (d : ℕ) : Type 0 where
+  pub holds : Holds r s d
+  pub none-earlier : (q : Reason) → number q < number r → Holds q s d → ⊥
 
--- No condition holds: the sheet is accepted.
-abbrev pub Loads : Bytes → Type 0
-Loads s = (r : Reason) → Holds r s → ⊥
+-- No condition holds: the sheet is accepted at that date.
+abbrev pub Loads : Bytes → ℕ → Type 0
+Loads s d = (r : Reason) → Holds r s d → ⊥
+
+-- A sheet without a refusal of its own: it loads at date 0, and so at every date up to the last one (`loads-is`).
+abbrev pub WellFormed : Bytes → Type 0
+WellFormed s = Loads s 0
 
 -- ---- What the check answers
 
@@ -175,24 +179,25 @@ abbrev pub unless : Bool → Reason → Checked → Checked
 unless true r k = k
 unless false r k = refused r
 
--- The reasons are tested in order, each over the whole sheet.
-unfoldable pub check : Bytes → Checked
-check s =
+-- The reasons are tested in order, each over the whole sheet, and then the date.
+unfoldable pub check : Bytes → ℕ → Checked
+check s d =
     unless (sizePasses s) I-1
     (unless (headerPasses s) I-2
     (unless (initialPasses s) I-3
     (unless (layoutPasses s) I-4
     (unless (allFit s (allTransitions s)) I-5
     (unless (disjointOver s (locations s) 0) I-6
-    (accepted (countsOf s)))))))
+    (unless (leb d maxDate) I-8
+    (accepted (countsOf s))))))))
 
 -- ---- What is promised of the check, and of a sheet that it accepts
 
 -- A reason is answered exactly when its condition holds and no earlier one does; the counts exactly when none holds.
-pub record CheckRight (s : Bytes) : Type 0 where
-  pub refuses : (r : Reason) → (check s ≡ refused r) ↔ Given r s
-  pub accepts : (check s ≡ accepted (countsOf s)) ↔ Loads s
-  pub one-of : (check s ≡ accepted (countsOf s)) ⊎ ((r : Reason) × (check s ≡ refused r))
+pub record CheckRight (s : Bytes) (d : ℕ) : Type 0 where
+  pub refuses : (r : Reason) → (check s d ≡ refused r) ↔ Given r s d
+  pub accepts : (check s d ≡ accepted (countsOf s)) ↔ Loads s d
+  pub one-of : (check s d ≡ accepted (countsOf s)) ⊎ ((r : Reason) × (check s d ≡ refused r))
 
 -- What runs need of an automaton: the bounds of every transition, and that it stays among the locations.
 unfoldable pub Bounded : Bytes → Type 0

@@ -7,7 +7,7 @@ use Prim.Native.Nat.{ℕ, zero, suc, _+_, _*_, _-_, min}
 use lib.Dec.{eqb, leb, ltb}
 use lib.ListN.{getElem?}
 use Rattle.enforcement.specs.Limits.{maxBound}
-use Rattle.enforcement.specs.Automaton.{Automaton, transitions, accepting, actions, locations, clocks}
+use Rattle.enforcement.specs.Automaton.{Bytes, transitions, accepting, actions, locations, clocks}
 use Rattle.enforcement.specs.TimedWord.{Configuration, fireFirst}
 
 -- Readings from here on act alike.
@@ -22,8 +22,8 @@ abbrev pub area : ℕ
 area = width * width
 
 -- The automaton has one clock.
-abbrev pub oneClock : Automaton → Bool
-oneClock a = eqb (clocks (a .bytes)) 1
+abbrev pub oneClock : Bytes → Bool
+oneClock s = eqb (clocks s) 1
 
 -- A configuration with saturated readings. A second clock that the automaton does not have counts as saturated.
 abbrev pub saturated : Bool → Configuration → Configuration
@@ -89,8 +89,8 @@ unfoldable pub tabled : {A : Type 0} → ℕ → (Configuration → A) → Confi
 tabled n f = let t = memo n (λ l. memo width (λ x. memo width (λ y. f (record { location = l; x = x; y = y })))) in λ p. t (p .location) (p .x) (p .y)
 
 -- The steps of an automaton, its transitions read once.
-unfoldable pub steps : Automaton → ℕ → Configuration → Option Configuration
-steps a = let t = memo (locations (a .bytes)) (transitions (a .bytes)) in λ c p. fireFirst (t (p .location)) c p
+unfoldable pub steps : Bytes → ℕ → Configuration → Option Configuration
+steps s = let t = memo (locations s) (transitions s) in λ c p. fireFirst (t (p .location)) c p
 
 -- An action c, then what f says: play it now, or wait, at most k ticks.
 unfoldable pub waits : (ℕ → Configuration → Option Configuration) → ℕ → (Configuration → Prospect) → ℕ → Configuration → Prospect
@@ -182,13 +182,13 @@ explore st acc n (suc k) (p ∷ todo) seen =
 unfoldable pub reaches : (ℕ → Configuration → Option Configuration) → (ℕ → Bool) → ℕ → ℕ → Configuration → Bool
 reaches st acc size n p = elim (ltb (p .location) size) [ true ↦ explore st acc n (suc ((n + 2) * (size * area))) (p ∷ []) [] | false ↦ acc (p .location) ]
 
-unfoldable pub compile : Automaton → Compiled
-compile a =
-    let st = steps a in
+unfoldable pub compile : Bytes → Compiled
+compile s =
+    let st = steps s in
     record {
-      size = locations (a .bytes);
-      known = actions (a .bytes);
+      size = locations s;
+      known = actions s;
       step = st;
-      accepts = accepting (a .bytes);
-      live = tabled (locations (a .bytes)) (reaches st (accepting (a .bytes)) (locations (a .bytes)) (actions (a .bytes)));
+      accepts = accepting s;
+      live = tabled (locations s) (reaches st (accepting s) (locations s) (actions s));
     }

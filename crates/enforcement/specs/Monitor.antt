@@ -69,7 +69,7 @@ abbrev pub withLamp : Compiled → Monitor → Monitor
 withLamp m b = record { date = b .date; pending = b .pending; schedule = b .schedule; configuration = b .configuration; last = b .last; numbered = b .numbered; lit = lampLit m b }
 
 abbrev pub freshMonitor : Automaton → Monitor
-freshMonitor a = withLamp (compile a) (record { date = a .loaded; pending = []; schedule = []; configuration = saturated (oneClock a) (origin a); last = a .loaded; numbered = 0; lit = false })
+freshMonitor a = withLamp (compile (a .bytes)) (record { date = a .loaded; pending = []; schedule = []; configuration = saturated (oneClock (a .bytes)) (origin a); last = a .loaded; numbered = 0; lit = false })
 
 abbrev pub same : Monitor → Reason → Answered
 same b r = record { outcome = refused r; monitor = b }

@@ -4,7 +4,7 @@ use Prim.Native.Nat.{ℕ}
 pub data Reason : Type 0 where
   I-1 I-2 I-3 I-4 I-5 I-6 I-7 I-8 S-1 S-2 S-3 S-4 S-5 : Reason
 
--- The order in which a load tests its reasons, which are the first six. The others are of calls, and no order is read off their numbers: `Answers` of the history has it.
+-- The order in which a load tests its reasons, which are the first six, and I-8 for its date. Those of calls have no order by their numbers: `Answers` of the history has it.
 abbrev pub number : Reason → ℕ
 number I-1 = 1
 number I-2 = 2

@@ -1,4 +1,4 @@
--- Time, runs and corrections (document 01), over exact readings and unlimited dates.
+-- Time, runs and corrections (document 01, with the loading date by request F-5 of document 02), over exact readings and unlimited dates.
 use mathlib.Core.Path.{_≡_}
 use mathlib.Core.Bool.{cond, _&&_}
 use mathlib.Core.List.{List, [], _∷_, _++_, map}
@@ -7,7 +7,7 @@ use mathlib.Core.Logic.{_⊎_}
 use Prim.Native.Nat.{ℕ, _+_, _-_, _≤_, _<_}
 use lib.Dec.{T, eqb}
 use lib.ListN.{length}
-use Rattle.enforcement.specs.Automaton.{Automaton, Transition, transitions, enabled, bit, accepting, initial, actions}
+use Rattle.enforcement.specs.Automaton.{Automaton, Bytes, Transition, transitions, enabled, bit, accepting, initial, actions}
 
 -- A configuration: a location and the valuation (the readings) of the two clocks.
 pub record Configuration : Type 0 where
@@ -33,8 +33,8 @@ fireFirst [] c p = none
 fireFirst (t ∷ ts) c p = cond (eqb (t .action) c && enabled t (p .x) (p .y)) (some (fire t p)) (fireFirst ts c p)
 
 -- Where an action leads from a configuration, if a transition is enabled.
-unfoldable pub step : Automaton → ℕ → Configuration → Option Configuration
-step a c p = fireFirst (transitions (a .bytes) (p .location)) c p
+unfoldable pub step : Bytes → ℕ → Configuration → Option Configuration
+step s c p = fireFirst (transitions s (p .location)) c p
 
 -- An event: an action with its date (a command with its date). A list of events is a timed word.
 pub record Event : Type 0 where
@@ -57,7 +57,7 @@ Accepting a d q = T (accepting (a .bytes) (q .location))
 
 -- The automaton accepts the timed word (the run satisfies the sheet).
 unfoldable pub Accepts : Automaton → List Event → Type 0
-Accepts a w = Run (step a) (Accepting a) (a .loaded) (origin a) w
+Accepts a w = Run (step (a .bytes)) (Accepting a) (a .loaded) (origin a) w
 
 -- Dates that never fall, none below d.
 abbrev pub Monotone : ℕ → List ℕ → Type 0

@@ -5,6 +5,7 @@ mod calls;
 mod document;
 mod edges;
 mod largest;
+mod loading;
 mod sheets;
 mod tails;
 
@@ -29,6 +30,8 @@ fn main() {
     edges::resets();
     edges::batches();
     edges::decisions();
+    loading::midday();
+    loading::limit();
     largest::all();
     tails::all();
 }

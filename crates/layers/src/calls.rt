@@ -14,9 +14,9 @@ fn print_call(title: &[u8], a: Answer) {
 // Question P8 of document 01, with lamp calls.
 pub fn all() {
     let c = course::sheet_c();
-    let loaded = Monitor::load(&c);
-    let checked = loaded.checked;
-    let b = loaded.monitor;
+    let start = Monitor::load(&c, 0);
+    let checked = start.checked;
+    let b = start.monitor;
     match checked {
         Checked::Accepted(_) => {}
         Checked::Refused(_) => {

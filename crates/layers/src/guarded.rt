@@ -1,26 +1,26 @@
-// What the layers above the load check are given: a sheet that loads, and a configuration of it.
+// What the layers above the load check are given: a well-formed sheet, and a configuration of it.
 use retimer::limits::Monitor;
 use retimer::sheet;
 use retimer::sheet::Checked;
 ghost use mathlib.Core.Path.{_≡_};
 ghost use mathlib.Core.Bool.{true};
 ghost use mathlib.Core.List.{[], _∷_};
-ghost use Rattle.enforcement.specs.Loading.{Loads};
+ghost use Rattle.enforcement.specs.Loading.{WellFormed};
 ghost use Rattle.retimer.specs.Readings.{Standing};
 
-// Whether a sheet loads.
+// Whether a sheet has no refusal of its own.
 fn loads(s: &[u8]) -> bool
-    ensures { λ b. ⌜ (b ≡ true → Loads (now (s .entry))) ⌝ }
+    ensures { λ b. ⌜ (b ≡ true → WellFormed (now (s .entry))) ⌝ }
 {
-    let Checked::Accepted(_) = sheet::check(s) else {
+    let Checked::Accepted(_) = sheet::check(s, 0) else {
         return false;
     };
     true
 }
 
-// Whether a location and readings are a configuration of a sheet that loads. With one clock the second reading counts as saturated.
+// Whether a location and readings are a configuration of a well-formed sheet. With one clock the second reading counts as saturated.
 pub fn stands(s: &[u8], l: u8, x: u8, y: u8) -> bool
-    ensures { λ b. ⌜ (b ≡ true → Loads (now (s .entry)) × Standing (now (s .entry)) l (x ∷ y ∷ [])) ⌝ }
+    ensures { λ b. ⌜ (b ≡ true → WellFormed (now (s .entry)) × Standing (now (s .entry)) l (x ∷ y ∷ [])) ⌝ }
 {
     if !loads(s) {
         return false;

@@ -23,6 +23,7 @@ fn main() {
     clocks::bounds();
     sheets::course();
     sheets::fronts();
+    sheets::dates();
     lookup::one_clock();
     lookup::two_clocks();
     liveness::one_clock();
@@ -36,5 +37,6 @@ fn main() {
     replay::keys();
     replay::edges();
     replay::numbers();
+    replay::dates();
     calls::all();
 }

@@ -81,11 +81,11 @@ fn print_state(q: State) {
     print::truth(q.lit);
 }
 
-// The calls of a text on a fresh box of a sheet.
-fn replay(title: &[u8], sheet: &[u8], text: &[u8]) {
+// The calls of a text on a fresh box of a sheet that is loaded at a date.
+fn replay_at(title: &[u8], sheet: &[u8], loaded: u32, text: &[u8]) {
     let mut calls = [0u8; block::BYTES];
     let n = script::calls_of(text, &mut calls);
-    let r = replay::replay(sheet, &calls[..n]);
+    let r = replay::replay(sheet, loaded, &calls[..n]);
     let checked = r.checked;
     let answer = r.answer;
     let b = r.monitor;
@@ -94,6 +94,10 @@ fn replay(title: &[u8], sheet: &[u8], text: &[u8]) {
     desk::print_checked(checked);
     print_answer(answer);
     print_state(q);
+}
+
+fn replay(title: &[u8], sheet: &[u8], text: &[u8]) {
+    replay_at(title, sheet, 0, text);
 }
 
 // Questions P1 to P10.
@@ -133,4 +137,27 @@ pub fn numbers() {
     replay(b"refused between: ", &e, b"0 at 2, 0 at 7, 0 at 6, 1 at 9");
     let b = course::sheet_b();
     replay(b"dropped before: ", &b, b"1 at 0, 0 at 3, 2 at 4, 1 at 5");
+}
+
+// Loading dates: a fresh box, one whose clocks have run, a call before it, the last date, and dates above it.
+pub fn dates() {
+    let c = course::sheet_c();
+    replay_at(b"fresh at 43200: ", &c, 43_200, b"");
+    replay_at(
+        b"P7 at 43200: ",
+        &c,
+        43_200,
+        b"0 at 43205, 255 at 43208, 1 at 43208",
+    );
+    replay_at(
+        b"P8 at 43200: ",
+        &c,
+        43_200,
+        b"0 at 43205, 255 at 43209, 1 at 43209",
+    );
+    replay_at(b"before 43200: ", &c, 43_200, b"0 at 43200, 0 at 43199");
+    let a = course::sheet_a();
+    replay_at(b"fresh at the last date: ", &a, 1_000_000_000, b"");
+    replay_at(b"too late: ", &a, 1_000_000_001, b"0 at 1000000001");
+    replay_at(b"refused and too late: ", &a[..41], 1_000_000_001, b"");
 }

@@ -25,19 +25,19 @@ use Rattle.retimer.specs.View.{bytesOf, viewOf}
 use Rattle.retimer.specs.Calls.{FreshRight}
 use Rattle.marking.specs.Marks.{blockText, textOf, keyText}
 
-module _ (s calls : Bytes) (v : Checked) (right : checkedOf v ≡ check s) where
+module _ (s : Bytes) (d : ℕ) (calls : Bytes) (v : Checked) (right : checkedOf v ≡ check s d) where
   -- A sheet that does not load has its line alone.
-  pub key-refused : (r : Reason) → v ≡ Refused r → checkedLine (checkedOf v) ≡ keyText s calls
-  key-refused r e = ap (λ (w : Checked). checkedLine (checkedOf w)) e ∙ ap (λ (w : Checked). textOf (checkedOf w) s calls) (sym e) ∙ ap (λ (k : loading.Checked). textOf k s calls) right
+  pub key-refused : (r : Reason) → v ≡ Refused r → checkedLine (checkedOf v) ≡ keyText s d calls
+  key-refused r e = ap (λ (w : Checked). checkedLine (checkedOf w)) e ∙ ap (λ (w : Checked). textOf (checkedOf w) s d calls) (sym e) ∙ ap (λ (k : loading.Checked). textOf k s d calls) right
 
-  -- The fresh box of a sheet that loads.
-  fresh-text : (b : Monitor) → FreshRight s b → blockText (modelOf (bytesOf b)) (viewOf b) 0 calls ≡ blockText (modelOf s) (freshMonitor (automaton s)) 0 calls
-  fresh-text b f = ap (λ (m : model.Monitor). blockText (modelOf (bytesOf b)) m 0 calls) (f .is) ∙ ap (λ (x : Bytes). blockText (modelOf x) (freshMonitor (automaton x)) 0 calls) (f .sheet)
+  -- The fresh box of a sheet that loads at that date.
+  fresh-text : (b : Monitor) → FreshRight s d b → blockText (modelOf (bytesOf b)) (viewOf b) 0 calls ≡ blockText (modelOf s) (freshMonitor (automaton s d)) 0 calls
+  fresh-text b f = ap (λ (m : model.Monitor). blockText (modelOf (bytesOf b)) m 0 calls) (f .is) ∙ ap (λ (x : Bytes). blockText (modelOf x) (freshMonitor (automaton x d)) 0 calls) (f .sheet)
 
-  pub key-accepted : (k : Counts) (b : Monitor) → v ≡ Accepted k → FreshRight s b → checkedLine (checkedOf v) ++ blockText (modelOf (bytesOf b)) (viewOf b) 0 calls ≡ keyText s calls
+  pub key-accepted : (k : Counts) (b : Monitor) → v ≡ Accepted k → FreshRight s d b → checkedLine (checkedOf v) ++ blockText (modelOf (bytesOf b)) (viewOf b) 0 calls ≡ keyText s d calls
   key-accepted k b e f =
       ap₂ (λ (w : Checked) (t : List ℕ). checkedLine (checkedOf w) ++ t) e (fresh-text b f)
-      ∙ ap (λ (w : Checked). textOf (checkedOf w) s calls) (sym e) ∙ ap (λ (c : loading.Checked). textOf c s calls) right
+      ∙ ap (λ (w : Checked). textOf (checkedOf w) s d calls) (sym e) ∙ ap (λ (c : loading.Checked). textOf c s d calls) right
 
 -- The part of a buffer from a place on.
 pub part-length : (y : List ℕ) (m : ℕ) → length (take (length y - m) (drop m y)) ≡ length y - m

@@ -18,6 +18,7 @@ use Rattle.io.specs.Counts.{Counts}
 use Rattle.report.specs.Texts.{Wrote}
 use Rattle.report.specs.Lines.{sheetLine, refusedLine, outcomeText, callLine, tailLine}
 use Rattle.retimer.specs.declared.limits.Monitor.{Monitor}
+use Rattle.retimer.specs.Bytes.{doubleWord}
 use Rattle.retimer.specs.Optimum.{modelOf}
 use Rattle.retimer.specs.View.{bytesOf, viewOf, Valid}
 use Rattle.retimer.specs.Calls.{withState}
@@ -67,10 +68,14 @@ sizeIn s = cond (ltb (length s) 2 || ltb maxSize (word s 0)) 0 (word s 0)
 abbrev pub sheetIn : Bytes → Bytes
 sheetIn s = cond (ltb (length s) (2 + sizeIn s)) [] (take (sizeIn s) (drop 2 s))
 
--- The text of a sheet and calls, by what the check of the sheet answers: its line and, where it loads, the lines of the calls on a fresh box.
-abbrev pub textOf : loading.Checked → Bytes → Bytes → List ℕ
-textOf (loading.accepted k) s calls = sheetLine k ++ blockText (modelOf s) (freshMonitor (automaton s)) 0 calls
-textOf (loading.refused r) s calls = refusedLine r
+-- The loading date, in the first four bytes of the input that has one; 0 where these are not there.
+abbrev pub dateIn : Bytes → ℕ
+dateIn s = cond (ltb (length s) 4) 0 (doubleWord s 0)
 
-abbrev pub keyText : Bytes → Bytes → List ℕ
-keyText s calls = textOf (check s) s calls
+-- The text of a sheet that is loaded at d, and calls, by what the check answers: its line and, where it loads, the lines of the calls on a fresh box.
+abbrev pub textOf : loading.Checked → Bytes → ℕ → Bytes → List ℕ
+textOf (loading.accepted k) s d calls = sheetLine k ++ blockText (modelOf s) (freshMonitor (automaton s d)) 0 calls
+textOf (loading.refused r) s d calls = refusedLine r
+
+abbrev pub keyText : Bytes → ℕ → Bytes → List ℕ
+keyText s d calls = textOf (check s d) s d calls

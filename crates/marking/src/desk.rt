@@ -1,4 +1,4 @@
-// The desk program: a sheet and calls from standard input, and the lines to standard output. What fills a buffer is promised where it is filled; here
+// The desk program: a sheet and calls from standard input, and the lines to standard output; and the same with a loading date before the sheet. What fills a buffer is promised where it is filled; here
 // is only reading, writing and handing on.
 use crate::block;
 use crate::input;
@@ -60,17 +60,29 @@ fn mark_calls(start: Monitor)
     }
 }
 
-// The whole program.
-pub fn run() {
+// Loads the sheet of the input at a date, and marks the calls behind it.
+fn mark_input(loaded: u32) {
     let mut front = [0u8; input::FRONT];
     let size = read_sheet(&mut front);
-    let loaded = input::load(&front[..size]);
-    let checked = loaded.checked;
+    let start = input::load(&front[..size], loaded);
+    let checked = start.checked;
     let Checked::Accepted(_) = checked else {
         print_checked(checked);
         return;
     };
     print_checked(checked);
-    let fresh = loaded.monitor;
+    let fresh = start.monitor;
     mark_calls(fresh);
+}
+
+// The whole program: the box is loaded at date 0.
+pub fn run() {
+    mark_input(0);
+}
+
+// The same for input that begins with the loading date.
+pub fn run_at() {
+    let mut head = [0u8; input::DATE];
+    let size = io::read_full(STDIN_FILENO, &mut head);
+    mark_input(input::date_in(&head[..size]));
 }

@@ -9,11 +9,11 @@ use Rattle.enforcement.proofs.Numbers.{numbers}
 use Rattle.retimer.specs.declared.limits.Monitor.{Monitor}
 use Rattle.retimer.specs.View.{automatonOf, pendingOf, scheduleOf, view, Valid}
 
-pub box-ordered : (b : Monitor) → Valid b → Ordered (automatonOf b .loaded) (b .state .date) (b .state .numbered) (scheduleOf (b .state)) (pendingOf (b .state))
+pub box-ordered : (b : Monitor) (v : Valid b) → Ordered (v .recorded .loaded) (b .state .date) (b .state .numbered) (scheduleOf (b .state)) (pendingOf (b .state))
 unfolding view Numbers
 box-ordered b v =
-    let a = automatonOf b in
     let r = v .recorded in
+    let a = automatonOf b (r .loaded) in
     let h = r .history in
     let s = r .stands in
     subst⁻¹ (λ (d : ℕ). Ordered (a .loaded) d (b .state .numbered) (scheduleOf (b .state)) (pendingOf (b .state))) (s .date-is)

@@ -41,8 +41,10 @@ unfolding view
 view-lit q e = ap (λ (x : model.Monitor). x .lit) e
 
 -- One more call.
-recorded-more : {a : Automaton} {v : model.Monitor} {k : Call} {w : model.Answered} (r : Recorded a v) → Demand2 a (r .history) k w → Recorded a (w .monitor)
-recorded-more {a} {v} {k} {w} r d = record {
+recorded-more : {s : Bytes} {v : model.Monitor} {k : Call} {w : model.Answered} (r : Recorded s v) → Demand2 (automaton s (r .loaded)) (r .history) k w → Recorded s (w .monitor)
+recorded-more {s} {v} {k} {w} r d = let a = automaton s (r .loaded) in record {
+  loaded = r .loaded;
+  loaded-fits = r .loaded-fits;
   past = r .past ++ (k ∷ []);
   outcomes = r .outcomes ++ (w .outcome ∷ []);
   history = d .history;
@@ -51,15 +53,15 @@ recorded-more {a} {v} {k} {w} r d = record {
 }
 
 module _ {s : Bytes} {live : List ℕ} {q : State} (v : StateValid s live q) (k : Call) (r : Moved) where
-  demand : movedOf r ≡ answer (modelOf s) (view q) k → (h : History) → StandsFor (automaton s) (view q) h → Demand2 (automaton s) h k (movedOf r)
+  demand : movedOf r ≡ answer (modelOf s) (view q) k → (d : ℕ) (h : History) → StandsFor (automaton s d) (view q) h → Demand2 (automaton s d) h k (movedOf r)
   unfolding Demand2All
-  demand e h f = subst⁻¹ (λ (w : model.Answered). Demand2 (automaton s) h k w) e (demand-2 (automaton s) (bounded s (v .sound .loads)) h (view q) f k)
+  demand e d h f = subst⁻¹ (λ (w : model.Answered). Demand2 (automaton s d) h k w) e (demand-2 (automaton s d) (bounded s (v .sound .loads)) h (view q) f k)
 
   done-right : Done s live q (answer (modelOf s) (view q) k) r → MoveRight s live q k r
   done-right d = record {
     is = d .is;
     rule = demand (d .is);
-    valid = record { sound = d .sound; recorded = recorded-more (v .recorded) (demand (d .is) (v .recorded .history) (v .recorded .stands)) };
+    valid = record { sound = d .sound; recorded = recorded-more (v .recorded) (demand (d .is) (v .recorded .loaded) (v .recorded .history) (v .recorded .stands)) };
     refused-same = d .refused-same;
     idle-same = d .idle-same;
     held-count = d .held-count;
@@ -179,7 +181,7 @@ oldest-lit m b t (e ∷ ss) = go (leb (e .date) t)
 
 module _ {s : Bytes} {live : List ℕ} {q : State} (v : StateValid s live q) where
   abbrev a : Automaton
-  a = automaton s
+  a = automaton s (v .recorded .loaded)
 
   abbrev past : History
   past = v .recorded .history

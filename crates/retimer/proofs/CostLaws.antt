@@ -11,9 +11,9 @@ use lib.Dec.{leb}
 use lib.ListN.{length, drop, length-drop}
 use borrow.Author.Tests.{leb-true, leb-false}
 use Rattle.enforcement.specs.Limits.{maxCount}
-use Rattle.enforcement.specs.Automaton.{Bytes, automaton, accepting, transitions}
+use Rattle.enforcement.specs.Automaton.{Bytes, accepting, transitions}
 use Rattle.enforcement.specs.TimedWord.{Configuration, fire, step}
-use Rattle.enforcement.specs.Loading.{Loads, Bounded}
+use Rattle.enforcement.specs.Loading.{WellFormed, Bounded}
 use Rattle.enforcement.specs.Model.{top, advance, Prospect, ticks, extensible, dead, ended, compile, prospect}
 use Rattle.enforcement.proofs.Loading.{bounded}
 use Rattle.enforcement.proofs.Equations.{AtMost, prospect-nil, prospect-most}
@@ -88,7 +88,7 @@ module _ (s : Bytes) (x y l : ℕ) (x-fits : x ≤ top) (y-fits : y ≤ top) (w 
   start = record { location = l; x = x; y = y }
 
   -- With at least one action left, all ends by w just when it does with one of the location's transitions.
-  pub cost-leads : Loads s → (c : ℕ) (cs : List ℕ) (e : ℕ) → e ≤ saturation x y → EndsBy s (c ∷ cs) w e (along x y l e) ↔ One (LeadsFor c (EndsBy s cs w) x y e) (transitions s l)
+  pub cost-leads : WellFormed s → (c : ℕ) (cs : List ℕ) (e : ℕ) → e ≤ saturation x y → EndsBy s (c ∷ cs) w e (along x y l e) ↔ One (LeadsFor c (EndsBy s cs w) x y e) (transitions s l)
   unfolding Bounded
   cost-leads loads c cs e k = (
     λ m. one-map (transitions s l) (bounded s loads l) (λ t f v. (v .0, leads-map (λ u g. within-cost (prospect (modelOf s) cs (fire t (along x y 0 u))) u w w-small .0 g) (v .1))) (leads .0 (here .1 m)),
@@ -110,4 +110,4 @@ module _ (s : Bytes) (x y l : ℕ) (x-fits : x ≤ top) (y-fits : y ≤ top) (w 
       let e : advance n (along x y l u) ≡ advance (a .0) (along x y l v) = advance-more u n start ∙ ap (λ (i : ℕ). advance i start) (let z : u + n ≡ v + a .0 = omega arith in z) ∙ sym (advance-more v (a .0) start) in
       within-cost (prospect (modelOf s) (c ∷ cs) (along x y l u)) u w w-small .0
       (prospect-timed (Within w) (within-timed w) s c cs (along x y l u) u (omega arith, omega arith) .1
-      (n, a .1, ap (step (automaton s) c) e ∙ a .2, subst (Within w (prospect (modelOf s) cs (a .1))) (let z : v + a .0 ≡ u + n = omega arith in z) (a .3)))
+      (n, a .1, ap (step s c) e ∙ a .2, subst (Within w (prospect (modelOf s) cs (a .1))) (let z : v + a .0 ≡ u + n = omega arith in z) (a .3)))

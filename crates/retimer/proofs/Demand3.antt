@@ -6,11 +6,11 @@ use mathlib.Core.List.{List, [], _∷_, _++_}
 use mathlib.Core.Logic.{_↔_}
 use Prim.Native.Nat.{ℕ}
 use Rattle.enforcement.specs.Automaton.{Bytes, automaton}
-use Rattle.enforcement.specs.Loading.{Loads}
-use Rattle.enforcement.specs.History.{fresh, Call, offer, lamp, Outcome, scheduled, held, dropped, played, nothing, lit, dark, refused, HistoryOf, Schedulable}
+use Rattle.enforcement.specs.Loading.{WellFormed}
+use Rattle.enforcement.specs.History.{History, fresh, Call, offer, lamp, Outcome, scheduled, held, dropped, played, nothing, lit, dark, refused, HistoryOf, Schedulable}
 use Rattle.enforcement.specs.Monitor.{freshMonitor, answer, replay}
 use Rattle.enforcement.specs.Monitor as model
-use Rattle.enforcement.specs.Demands.{StandsFor, ModelDemand3, ModelDemand3All, Admitted, calls, lampAfter}
+use Rattle.enforcement.specs.Demands.{StandsFor, Demand2, ModelDemand3, ModelDemand3All, Admitted, calls, lampAfter}
 use Rattle.enforcement.proofs.Loading.{bounded}
 use Rattle.enforcement.proofs.Model.{replay-append}
 use Rattle.enforcement.proofs.Promises.{model-demand-3}
@@ -56,6 +56,15 @@ pub made-valid : {b b′ : Monitor} {ks : List Call} {xs : List Answer} → Vali
 made-valid v end = v
 made-valid v (call r c m) = made-valid (c .valid) m
 
+-- For every loading date and history that a box stands for, calls on it answer as that history goes on, and the box stands for it after them.
+pub rule-follows : {b b′ : Monitor} {ks : List Call} {xs : List Answer} (s : Bytes) (d : ℕ) (h : History) → bytesOf b ≡ s → StandsFor (automaton s d) (viewOf b) h → Made b ks xs b′
+    → (h′ : History) × HistoryOf (automaton s d) h ks (outcomesOf xs) h′ × StandsFor (automaton s d) (viewOf b′) h′
+rule-follows s d h e f end = (h, HistoryOf.end, f)
+rule-follows {b} s d h e f (call {k = k} r c m) =
+    let z : Demand2 (automaton s d) h k (answeredOf r) = subst (λ (x : Bytes). StandsFor (automaton x d) (viewOf b) h → Demand2 (automaton x d) h k (answeredOf r)) e (c .rule d h) f in
+    let y = rule-follows s d (z .history) (ap bytesOf (c .kept) ∙ e) (z .stands) m in
+    (y .0, HistoryOf.call (z .answers) (y .1), y .2)
+
 -- ---- Which answer an outcome is of
 
 -- The answer of an outcome; a where the outcome leaves out the count that "held" carries, or has a reason.
@@ -94,50 +103,50 @@ lamp-told b r c = told (r .answer) (b .state .lit) (ap (λ (w : model.Answered).
 
 -- ---- Demand 3
 
-module _ (s : Bytes) (b₀ : Monitor) (f : FreshRight s b₀) (ks : List Call) (xs : List Answer) (b : Monitor) (m : Made b₀ ks xs b) where
-  loads : Loads s
-  loads = subst Loads (f .sheet) (f .valid .sound .state .loads)
+module _ (s : Bytes) (d : ℕ) (b₀ : Monitor) (f : FreshRight s d b₀) (ks : List Call) (xs : List Answer) (b : Monitor) (m : Made b₀ ks xs b) where
+  loads : WellFormed s
+  loads = subst WellFormed (f .sheet) (f .valid .sound .state .loads)
 
-  model-right : (ls : List Call) → ModelDemand3 (automaton s) ls
+  model-right : (ls : List Call) → ModelDemand3 (automaton s d) ls
   unfolding ModelDemand3All
-  model-right = model-demand-3 (automaton s) (bounded s loads)
+  model-right = model-demand-3 (automaton s d) (bounded s loads)
 
-  fresh-view : viewOf b₀ ≡ freshMonitor (automaton s)
-  fresh-view = subst (λ (x : Bytes). viewOf b₀ ≡ freshMonitor (automaton x)) (f .sheet) (f .is)
+  fresh-view : viewOf b₀ ≡ freshMonitor (automaton s d)
+  fresh-view = subst (λ (x : Bytes). viewOf b₀ ≡ freshMonitor (automaton x d)) (f .sheet) (f .is)
 
   now : Follows s b₀ ks xs b
   now = made-follows s (f .sheet) (f .valid) m
 
-  monitor-is : viewOf b ≡ calls (automaton s) ks .monitor
+  monitor-is : viewOf b ≡ calls (automaton s d) ks .monitor
   monitor-is = now .monitor-is ∙ ap (λ (x : model.Monitor). replay (modelOf s) x ks .monitor) fresh-view
 
-  outcomes-are : outcomesOf xs ≡ calls (automaton s) ks .outcomes
+  outcomes-are : outcomesOf xs ≡ calls (automaton s d) ks .outcomes
   outcomes-are = now .outcomes-are ∙ ap (λ (x : model.Monitor). replay (modelOf s) x ks .outcomes) fresh-view
 
   -- The box after more calls.
-  after-more : (more : List Call) (ys : List Answer) (b′ : Monitor) → Made b more ys b′ → (viewOf b′ ≡ calls (automaton s) (ks ++ more) .monitor) × (bytesOf b′ ≡ s)
+  after-more : (more : List Call) (ys : List Answer) (b′ : Monitor) → Made b more ys b′ → (viewOf b′ ≡ calls (automaton s d) (ks ++ more) .monitor) × (bytesOf b′ ≡ s)
   after-more more ys b′ n =
       let g : Follows s b more ys b′ = made-follows s (now .sheet-is) (now .valid) n in
-      (g .monitor-is ∙ ap (λ (x : model.Monitor). replay (modelOf s) x more .monitor) monitor-is ∙ sym (replay-append (modelOf s) ks more (freshMonitor (automaton s))), g .sheet-is)
+      (g .monitor-is ∙ ap (λ (x : model.Monitor). replay (modelOf s) x more .monitor) monitor-is ∙ sym (replay-append (modelOf s) ks more (freshMonitor (automaton s d))), g .sheet-is)
 
-  lit-now : b .state .lit ≡ lampAfter (automaton s) ks
+  lit-now : b .state .lit ≡ lampAfter (automaton s d) ks
   lit-now = view-lit (b .state) monitor-is
 
-  all-dropped : b .state .lit ≡ true → (more : List Call) (ys : List Answer) (b′ : Monitor) → Made b more ys b′ → (c t : ℕ) → Admitted (automaton s) (viewOf b′) c t → (q : Answered) → CallRight b′ (offer c t) q → q .answer ≡ Dropped
+  all-dropped : b .state .lit ≡ true → (more : List Call) (ys : List Answer) (b′ : Monitor) → Made b more ys b′ → (c t : ℕ) → Admitted (automaton s d) (viewOf b′) c t → (q : Answered) → CallRight b′ (offer c t) q → q .answer ≡ Dropped
   all-dropped e more ys b′ n c t i q w =
       let g = after-more more ys b′ n in
       answer-of (q .answer) dropped
       (ap (λ (x : model.Answered). x .outcome) (w .is) ∙ ap₂ (λ (x : Bytes) (v : model.Monitor). answer (modelOf x) v (offer c t) .outcome) (g .1) (g .0)
-      ∙ model-right ks .drops (sym lit-now ∙ e) more c t (subst (λ (v : model.Monitor). Admitted (automaton s) v c t) (g .0) i))
+      ∙ model-right ks .drops (sym lit-now ∙ e) more c t (subst (λ (v : model.Monitor). Admitted (automaton s d) v c t) (g .0) i))
 
-  pub code-demand-3 : CodeDemand3 s ks xs b
+  pub code-demand-3 : CodeDemand3 s d ks xs b
   code-demand-3 = let z = model-right ks in record {
     history = z .history;
-    recorded = subst⁻¹ (λ (os : List Outcome). HistoryOf (automaton s) (fresh (automaton s)) ks os (z .history)) outcomes-are (z .recorded);
+    recorded = subst⁻¹ (λ (os : List Outcome). HistoryOf (automaton s d) (fresh (automaton s d)) ks os (z .history)) outcomes-are (z .recorded);
     only = λ os h r. (z .only os h r .0 ∙ sym outcomes-are, z .only os h r .1);
-    stands = subst⁻¹ (λ (x : model.Monitor). StandsFor (automaton s) x (z .history)) monitor-is (z .stands);
-    lit-is = subst⁻¹ (λ (x : Bool). (x ≡ true) ↔ (Schedulable (automaton s) (z .history) → ⊥)) lit-now (z .lit-is);
-    dark-is = subst⁻¹ (λ (x : Bool). (x ≡ false) ↔ Schedulable (automaton s) (z .history)) lit-now (z .dark-is);
+    stands = subst⁻¹ (λ (x : model.Monitor). StandsFor (automaton s d) x (z .history)) monitor-is (z .stands);
+    lit-is = subst⁻¹ (λ (x : Bool). (x ≡ true) ↔ (Schedulable (automaton s d) (z .history) → ⊥)) lit-now (z .lit-is);
+    dark-is = subst⁻¹ (λ (x : Bool). (x ≡ false) ↔ Schedulable (automaton s d) (z .history)) lit-now (z .dark-is);
     rule-is = z .rule-is;
     answers-lamp = lamp-told b;
     stays-lit = λ e more ys b′ n. view-lit (b′ .state) (after-more more ys b′ n .0) ∙ z .stays-lit (sym lit-now ∙ e) more;

@@ -11,7 +11,7 @@ use lib.ListN.{length}
 use lib.Bits.{bitOr}
 use borrow.Author.Tests.{eqb-true, eqb-false, eq-eqb}
 use Rattle.enforcement.specs.Automaton.{Bytes, Transition, word, locations, transitionAt, transitions}
-use Rattle.enforcement.specs.Loading.{Loads, Fits, AllFit, Bounded}
+use Rattle.enforcement.specs.Loading.{WellFormed, Fits, AllFit, Bounded}
 use Rattle.enforcement.proofs.Loading.{bounded}
 use Rattle.enforcement.proofs.Bits.{or-cases, or-shown, in-or, none-in}
 use Rattle.retimer.specs.Steps.{One}
@@ -28,7 +28,7 @@ target-fits s c m [] f o = absurd o
 target-fits s c m (t ∷ ts) f (inl o) = subst (λ (n : ℕ). n < locations s) (o .1) (f .0 .target-fits)
 target-fits s c m (t ∷ ts) f (inr o) = target-fits s c m ts (f .1) o
 
-enters-fits : (s : Bytes) (c l m : ℕ) → Loads s → EntersFrom s c l m → m < locations s
+enters-fits : (s : Bytes) (c l m : ℕ) → WellFormed s → EntersFrom s c l m → m < locations s
 unfolding Bounded
 enters-fits s c l m loads o = target-fits s c m (transitions s l) (bounded s loads l) o
 
@@ -42,7 +42,7 @@ added-has {set} {l} {v} a j = (
 pub record InTargets (s : Bytes) (c l found p end : ℕ) : Type 0 where
   pub left : (m : ℕ) → Left s (EntersFrom s c l m) (In m found) (Enters c m) p end
 
-pub targets-begun : {s : Bytes} (c : ℕ) {l v n : ℕ} → Loads s → l < locations s → v ≡ word s (6 + 4 * l) → n ≡ word s (6 + 4 * l + 2) → InTargets s c l 0 v (v + n)
+pub targets-begun : {s : Bytes} (c : ℕ) {l v n : ℕ} → WellFormed s → l < locations s → v ≡ word s (6 + 4 * l) → n ≡ word s (6 + 4 * l + 2) → InTargets s c l 0 v (v + n)
 targets-begun {s} c {l} {v} {n} loads k e f = record { left = λ m. left-begun s (EntersFrom s c l m) (In m 0) (Enters c m) l l v n loads k refl e f (none-in m) (λ g. g, λ g. g) }
 
 module _ {s : Bytes} {c l found p end : ℕ} (w : InTargets s c l found p end) where
@@ -65,7 +65,7 @@ module _ {s : Bytes} {c l found p end : ℕ} (w : InTargets s c l found p end) w
   pub targets-passed : p < end → (transitionAt s p .action ≡ c → ⊥) → InTargets s c l found (p + 7) end
   targets-passed h f = record { left = λ m. left-passed (w .left m) h (λ q. f (q .0)) }
 
-  pub targets-done : Loads s → end ≤ p → Gathered s (EntersFrom s c l) found
+  pub targets-done : WellFormed s → end ≤ p → Gathered s (EntersFrom s c l) found
   targets-done loads h = record { in-sheet = λ m g. enters-fits s c l m loads (left-none (w .left m) h .1 g); right = λ m. let n = left-none (w .left m) h in (n .1, n .0) }
 
 -- ---- From a set
@@ -106,7 +106,7 @@ module _ {s : Bytes} {c places : ℕ} where
         before i h k true e = absurd (f (subst (λ (i : ℕ). In i places) (eqb-true i l e) k))
         before i h k false e = let g : i ≡ l → ⊥ = eqb-false i l e in omega arith
 
-  pub all-done : {found l : ℕ} → InTargetsOf s c places found l → Loads s → InSheet s places → locations s ≤ l → Gathered s (EntersFromAny s c places) found
+  pub all-done : {found l : ℕ} → InTargetsOf s c places found l → WellFormed s → InSheet s places → locations s ≤ l → Gathered s (EntersFromAny s c places) found
   all-done w loads inside h = record {
     in-sheet = λ m g. let o = w .right m .0 g in enters-fits s c (o .0) m loads (o .3);
     right = λ m. (

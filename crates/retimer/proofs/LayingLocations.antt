@@ -12,7 +12,7 @@ use lib.Seq.{getD-set-same, getD-set-other}
 use borrow.Author.Tests.{eqb-true, eqb-false}
 use Rattle.enforcement.specs.Limits.{maxCount}
 use Rattle.enforcement.specs.Automaton.{Transition, bit, enabled, locations, transitionAt, word}
-use Rattle.enforcement.specs.Loading.{Loads, Fits}
+use Rattle.enforcement.specs.Loading.{WellFormed, Fits}
 use Rattle.enforcement.specs.TimedWord.{fire}
 use Rattle.enforcement.specs.Model.{top, width}
 use Rattle.enforcement.proofs.Loading.{header}
@@ -177,7 +177,7 @@ module _ {s cs : List ℕ} {k l : ℕ} {low high : List ℕ} (a : Laying s cs k 
 
 -- ---- All locations of a table
 
-pub stretch-most : (s : List ℕ) {h n : ℕ} → Loads s → Stretch (locations s) h n → Stretch maxCount h n
+pub stretch-most : (s : List ℕ) {h n : ℕ} → WellFormed s → Stretch (locations s) h n → Stretch maxCount h n
 stretch-most s loads a = record { in-half = a .in-half; in-count = let i = header s loads .locations-fit in omega (arith, a .in-count) }
 
 pub writes-begun : {s : List ℕ} {c : ℕ} {cs : List ℕ} {h i places : ℕ} {table : List ℕ} → Small table → AllWritten s c cs h (Chosen i 0 places) table table

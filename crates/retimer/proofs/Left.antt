@@ -7,7 +7,7 @@ use Prim.Native.Nat.{ℕ, _+_, _*_, _-_, _≤_, _<_, _/_, _%_}
 use native.Mathlib.Omega.{arith}
 use lib.ListN.{length}
 use Rattle.enforcement.specs.Automaton.{Bytes, Transition, word, locations, offset, size, transitionAt, transitionsFrom, transitions}
-use Rattle.enforcement.specs.Loading.{Loads, Fits, AllFit, Bounded}
+use Rattle.enforcement.specs.Loading.{WellFormed, Fits, AllFit, Bounded}
 use Rattle.enforcement.proofs.Pairs.{transitions-known, layout-inside}
 use Rattle.enforcement.proofs.Loading.{layout, bounded}
 use Rattle.retimer.specs.Steps.{One}
@@ -22,7 +22,7 @@ pub record Left (s : Bytes) (W A : Type 0) (Q : Transition → Type 0) (p e : �
   pub same : W ↔ (A ⊎ One Q (transitionsFrom s ((e - p) / 7) p))
 
 -- Where a location's transitions lie, as the code reads it: w for the location, v for the offset and n for the size.
-pub left-whole : (s : Bytes) (W A : Type 0) (Q : Transition → Type 0) (l w v n : ℕ) → Loads s → l < locations s → w ≡ l → v ≡ word s (6 + 4 * w) → n ≡ word s (6 + 4 * w + 2) → W ↔ (A ⊎ One Q (transitions s l)) → Left s W A Q v (v + n)
+pub left-whole : (s : Bytes) (W A : Type 0) (Q : Transition → Type 0) (l w v n : ℕ) → WellFormed s → l < locations s → w ≡ l → v ≡ word s (6 + 4 * w) → n ≡ word s (6 + 4 * w + 2) → W ↔ (A ⊎ One Q (transitions s l)) → Left s W A Q v (v + n)
 unfolding Bounded
 left-whole s W A Q l w v n loads k d e f g =
     let a : v ≡ offset s l = e ∙ ap (λ (i : ℕ). word s (6 + 4 * i)) d in
@@ -39,7 +39,7 @@ left-whole s W A Q l w v n loads k d e f g =
     }
 
 -- The same where nothing was found before.
-pub left-begun : (s : Bytes) (W A : Type 0) (Q : Transition → Type 0) (l w v n : ℕ) → Loads s → l < locations s → w ≡ l → v ≡ word s (6 + 4 * w) → n ≡ word s (6 + 4 * w + 2) → (A → ⊥) → W ↔ One Q (transitions s l) → Left s W A Q v (v + n)
+pub left-begun : (s : Bytes) (W A : Type 0) (Q : Transition → Type 0) (l w v n : ℕ) → WellFormed s → l < locations s → w ≡ l → v ≡ word s (6 + 4 * w) → n ≡ word s (6 + 4 * w + 2) → (A → ⊥) → W ↔ One Q (transitions s l) → Left s W A Q v (v + n)
 left-begun s W A Q l w v n loads k d e f z g = left-whole s W A Q l w v n loads k d e f (λ x. inr (g .0 x), λ x. ⊎-elim (λ y. absurd (z y)) (λ y. g .1 y) x)
 
 module _ {s : Bytes} {W A : Type 0} {Q : Transition → Type 0} {p e : ℕ} (m : Left s W A Q p e) where

@@ -36,3 +36,4 @@ pub mod Loads
 pub mod Replays
 pub mod Demand3
 pub mod BoxNumbers
+pub mod Shifts

@@ -11,9 +11,9 @@ use lib.Dec.{eqb}
 use lib.ListN.{length, getD, set, replicate, length-replicate}
 use borrow.Author.Tests.{eq-eqb, eqb-true, eqb-false}
 use Rattle.enforcement.specs.Limits.{maxCount}
-use Rattle.enforcement.specs.Automaton.{Bytes, Transition, automaton, byte, bit, accepting, actions, clocks, locations, offset, size, word, transitionAt, transitions, enabled}
+use Rattle.enforcement.specs.Automaton.{Bytes, Transition, byte, bit, accepting, actions, clocks, locations, offset, size, word, transitionAt, transitions, enabled}
 use Rattle.enforcement.specs.TimedWord.{Configuration, fire, fireFirst, step}
-use Rattle.enforcement.specs.Loading.{Loads, Fits, AllFit, OverlapIn, Bounded, Deterministic}
+use Rattle.enforcement.specs.Loading.{WellFormed, Fits, AllFit, OverlapIn, Bounded, Deterministic}
 use Rattle.enforcement.specs.Model.{top, width, advance, compile}
 use Rattle.enforcement.proofs.Liveness.{Live, here, tick, act}
 use Rattle.enforcement.proofs.Tests.{true-T}
@@ -159,15 +159,15 @@ pub record Sweeping (s : Bytes) (t u : List ℕ) (set l next : ℕ) : Type 0 whe
 
 -- ---- What is live
 
-module _ (s : Bytes) (loads : Loads s) where
+module _ (s : Bytes) (loads : WellFormed s) where
   abbrev Lives : ℕ → ℕ → ℕ → Type 0
-  Lives l x y = Live (step (automaton s)) (accepting s) (actions s) (at l x y)
+  Lives l x y = Live (step s) (accepting s) (actions s) (at l x y)
 
   pub alive-lives : (l x y : ℕ) → Stands s l x y → alive s l x y ≡ true → Lives l x y
-  alive-lives l x y h = live-search (automaton s) (bounded s loads) (at l x y) (h .first) (h .second) .0
+  alive-lives l x y h = live-search s (bounded s loads) (at l x y) (h .first) (h .second) .0
 
   pub lives-alive : (l x y : ℕ) → Stands s l x y → Lives l x y → alive s l x y ≡ true
-  lives-alive l x y h = live-search (automaton s) (bounded s loads) (at l x y) (h .first) (h .second) .1
+  lives-alive l x y h = live-search s (bounded s loads) (at l x y) (h .first) (h .second) .1
 
   -- A transition that leads into sound rows.
   leads-alive : (t : List ℕ) → Sound s t → (l x y q : ℕ) → Place s l q → Stands s l x y → leads t (transitionAt s q) x y ≡ true → alive s l x y ≡ true
@@ -424,7 +424,7 @@ module _ (s : Bytes) (loads : Loads s) where
       go true x k = subst Stood (let y : fire u p ≡ q = cc in y) (fire-stands (f .0) h)
       go false x k = k x
 
-  step-stands : (c : ℕ) (p q : Configuration) → Stood p → step (automaton s) c p ≡ some q → Stood q
+  step-stands : (c : ℕ) (p q : Configuration) → Stood p → step s c p ≡ some q → Stood q
   unfolding step Bounded
   step-stands c p q h e = first-stands (transitions s (p .location)) (bounded s loads (p .location)) c p q h e
 
@@ -439,7 +439,7 @@ module _ (s : Bytes) (loads : Loads s) where
 
   -- Rows that nothing can still join have all that is live.
   module _ {t : List ℕ} (f : Unsettled s t 0) where
-    closed-holds : (p : Configuration) → Live (step (automaton s)) (accepting s) (actions s) p → Stood p → holds t p ≡ true
+    closed-holds : (p : Configuration) → Live (step s) (accepting s) (actions s) p → Stood p → holds t p ≡ true
     unfolding step
     closed-holds p (here {p = z} e) h = f .full (z .location) (z .x) (z .y) (omega (arith, h .in-sheet, header s loads .locations-fit)) (h .first) (h .used) (h .second) e
     closed-holds p (tick {p = z} g) h = f .ticked (z .location) (h .in-sheet) (z .x) (z .y) (h .first) (h .used) (h .second) (closed-holds (advance 1 z) g (later-stands 1 h))
@@ -447,9 +447,9 @@ module _ (s : Bytes) (loads : Loads s) where
         first-holds t c z q (transitions s (z .location)) h (places-every s loads (z .location) (h .in-sheet) (Included s t (z .location)) (λ i r. f .included (z .location) i (h .in-sheet) r (bit-none (byte s (i + 1))))) e (closed-holds q g (step-stands c z q h e))
 
     rows-right : LiveSet s t
-    rows-right = record { sized = f .sound .sized; fits = header s loads .locations-fit; ticked = f .ticked; right = λ l r h. go l r h (member t l (getD r 0 0) (getD r 1 0)) refl (compile (automaton s) .live (located l r)) refl }
+    rows-right = record { sized = f .sound .sized; fits = header s loads .locations-fit; ticked = f .ticked; right = λ l r h. go l r h (member t l (getD r 0 0) (getD r 1 0)) refl (compile s .live (located l r)) refl }
       where
-        go : (l : ℕ) (r : List ℕ) → Standing s l r → (a : Bool) → member t l (getD r 0 0) (getD r 1 0) ≡ a → (b : Bool) → compile (automaton s) .live (located l r) ≡ b → a ≡ b
+        go : (l : ℕ) (r : List ℕ) → Standing s l r → (a : Bool) → member t l (getD r 0 0) (getD r 1 0) ≡ a → (b : Bool) → compile s .live (located l r) ≡ b → a ≡ b
         go l r h true e b k = sym (f .sound .live l (getD r 0 0) (getD r 1 0) (standing-stands h) e) ∙ k
         go l r h false e false k = refl
         go l r h false e true k = sym e ∙ closed-holds (located l r) (alive-lives l (getD r 0 0) (getD r 1 0) (standing-stands h) k) (standing-stands h)

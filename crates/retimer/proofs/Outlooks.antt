@@ -13,7 +13,7 @@ use lib.Seq.{drop-cons, length-take-le}
 use lib.Bits.{bitAnd, and-le-l}
 use borrow.Author.Tests.{eq-eqb}
 use Rattle.enforcement.specs.Automaton.{Bytes, word, accepting, clocks}
-use Rattle.enforcement.specs.Loading.{Loads}
+use Rattle.enforcement.specs.Loading.{WellFormed}
 use Rattle.enforcement.specs.TimedWord.{Configuration}
 use Rattle.enforcement.specs.Model.{top, Prospect, ticks, extensible, dead, prospect}
 use Rattle.enforcement.specs.Monitor.{isDead, isLit}
@@ -77,7 +77,7 @@ front-more : (c : ℕ) (cs : List ℕ) → 0 < length cs → frontOf (c ∷ cs) 
 front-more c [] h = absurd (omega arith)
 front-more c (d ∷ cs) h = let e : suc (suc (length cs)) - 1 ≡ suc (suc (length cs) - 1) = omega arith in ap (λ (n : ℕ). take n (c ∷ d ∷ cs)) e
 
-module _ (s : Bytes) (loads : Loads s) {set : List ℕ} {places : ℕ} (r : Reached s set places) where
+module _ (s : Bytes) (loads : WellFormed s) {set : List ℕ} {places : ℕ} (r : Reached s set places) where
   -- Where all is played, the live members are those whose prospect is not dead.
   live-some : SomeLive s set ↔ Some Lives s [] set
   live-some = (
@@ -104,7 +104,7 @@ module _ (s : Bytes) (cs set nxt : List ℕ) (k c places found : ℕ) (less : k 
   )
 
   -- The last action is played, and the set has waited.
-  pub rated-last : Loads s → {new : List ℕ} → Elapsed s set new places → k + 1 ≡ length cs → (o : Outlook) → RatedLast s new nxt o → Rated s (drop k cs) set o
+  pub rated-last : WellFormed s → {new : List ℕ} → Elapsed s set new places → k + 1 ≡ length cs → (o : Outlook) → RatedLast s new nxt o → Rated s (drop k cs) set o
   rated-last loads a e o h =
       let all : length cs ≤ k + 1 = omega arith in
       let live = live-some s loads (p .reached) in

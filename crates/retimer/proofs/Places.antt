@@ -6,7 +6,7 @@ use Prim.Native.Nat.{ℕ, zero, suc, _+_, _*_, _-_, _≤_, _<_, _/_}
 use native.Mathlib.Omega.{arith}
 use lib.ListN.{length}
 use Rattle.enforcement.specs.Automaton.{Bytes, Transition, locations, offset, size, transitionAt, transitionsFrom, transitions}
-use Rattle.enforcement.specs.Loading.{Loads, Fits, AllFit, Bounded}
+use Rattle.enforcement.specs.Loading.{WellFormed, Fits, AllFit, Bounded}
 use Rattle.enforcement.proofs.Pairs.{transitions-known, layout-inside}
 use Rattle.enforcement.proofs.Loading.{layout, bounded}
 use Rattle.retimer.specs.Live.{Place}
@@ -40,7 +40,7 @@ fits-in : (s : Bytes) (us : List Transition) (u : Transition) (ws : List Transit
 fits-in s [] u ws f = f .0
 fits-in s (v ∷ us) u ws f = fits-in s us u ws (f .1)
 
-module _ (s : Bytes) (loads : Loads s) (l : ℕ) (h : l < locations s) where
+module _ (s : Bytes) (loads : WellFormed s) (l : ℕ) (h : l < locations s) where
   -- The transition at a place stands in the list.
   pub place-split : (q : ℕ) → Place s l q → Split (transitions s l) (transitionAt s q)
   place-split q r =

@@ -6,8 +6,8 @@ use mathlib.Core.List.{[]}
 use mathlib.Core.Logic.{_↔_}
 use Prim.Native.Nat.{ℕ, zero, suc, _+_}
 use native.Mathlib.Omega.{arith}
-use Rattle.enforcement.specs.Automaton.{Bytes, accepting, actions, automaton}
-use Rattle.enforcement.specs.Loading.{Loads}
+use Rattle.enforcement.specs.Automaton.{Bytes, accepting, actions}
+use Rattle.enforcement.specs.Loading.{WellFormed}
 use Rattle.enforcement.specs.TimedWord.{Configuration, step}
 use Rattle.enforcement.specs.Model.{advance, Prospect, ticks, extensible, dead, ended, compile, prospect}
 use Rattle.enforcement.specs.Monitor.{isDead}
@@ -22,14 +22,14 @@ use Rattle.retimer.proofs.ProspectKinds.{Saturated, advance-none, advan
 
 -- ---- Waiting adds nothing that is live
 
-pub sooner-lives : (s : Bytes) (n : ℕ) (p : Configuration) → Saturated p → Live (step (automaton s)) (accepting s) (actions s) (advance n p) → Live (step (automaton s)) (accepting s) (actions s) p
-sooner-lives s zero p h m = subst (Live (step (automaton s)) (accepting s) (actions s)) (advance-none p h) m
+pub sooner-lives : (s : Bytes) (n : ℕ) (p : Configuration) → Saturated p → Live (step s) (accepting s) (actions s) (advance n p) → Live (step s) (accepting s) (actions s) p
+sooner-lives s zero p h m = subst (Live (step s) (accepting s) (actions s)) (advance-none p h) m
 sooner-lives s (suc n) p h m =
     let e : 1 + n ≡ suc n = omega arith in
-    tick (sooner-lives s n (advance 1 p) (omega arith, omega arith) (subst⁻¹ (Live (step (automaton s)) (accepting s) (actions s)) (advance-more 1 n p ∙ ap (λ (k : ℕ). advance k p) e) m))
+    tick (sooner-lives s n (advance 1 p) (omega arith, omega arith) (subst⁻¹ (Live (step s) (accepting s) (actions s)) (advance-more 1 n p ∙ ap (λ (k : ℕ). advance k p) e) m))
 
-pub sooner-live : (s : Bytes) → Loads s → (n : ℕ) (p : Configuration) → Saturated p → modelOf s .live (advance n p) ≡ true → modelOf s .live p ≡ true
-sooner-live s loads n p h m = live-search (automaton s) (bounded s loads) p (h .0) (h .1) .1 (sooner-lives s n p h (live-search (automaton s) (bounded s loads) (advance n p) (omega arith) (omega arith) .0 m))
+pub sooner-live : (s : Bytes) → WellFormed s → (n : ℕ) (p : Configuration) → Saturated p → modelOf s .live (advance n p) ≡ true → modelOf s .live p ≡ true
+sooner-live s loads n p h m = live-search s (bounded s loads) p (h .0) (h .1) .1 (sooner-lives s n p h (live-search s (bounded s loads) (advance n p) (omega arith) (omega arith) .0 m))
 
 -- ---- All is played
 
@@ -38,8 +38,8 @@ unfolding ended compile
 nil-is s q a b e f = prospect-nil (modelOf s) q ∙ rw (e, f) refl
 
 -- An accepting location is live.
-accepting-live : (s : Bytes) → Loads s → (q : Configuration) → Saturated q → accepting s (q .location) ≡ true → modelOf s .live q ≡ true
-accepting-live s loads q h e = live-search (automaton s) (bounded s loads) q (h .0) (h .1) .1 (here e)
+accepting-live : (s : Bytes) → WellFormed s → (q : Configuration) → Saturated q → accepting s (q .location) ≡ true → modelOf s .live q ≡ true
+accepting-live s loads q h e = live-search s (bounded s loads) q (h .0) (h .1) .1 (here e)
 
 pub ends-nil : (s : Bytes) (q : Configuration) → Ends (prospect (modelOf s) [] q) ↔ (accepting s (q .location) ≡ true)
 ends-nil s q = (λ h. to (accepting s (q .location)) refl (modelOf s .live q) refl h, λ e. subst⁻¹ Ends (nil-is s q true (modelOf s .live q) e refl) tt)
@@ -49,7 +49,7 @@ ends-nil s q = (λ h. to (accepting s (q .location)) refl (modelOf s .live q) re
     to false e true f h = absurd (subst Ends (nil-is s q false true e f) h)
     to false e false f h = absurd (subst Ends (nil-is s q false false e f) h)
 
-pub lives-nil : (s : Bytes) → Loads s → (q : Configuration) → Saturated q → Lives (prospect (modelOf s) [] q) ↔ (modelOf s .live q ≡ true)
+pub lives-nil : (s : Bytes) → WellFormed s → (q : Configuration) → Saturated q → Lives (prospect (modelOf s) [] q) ↔ (modelOf s .live q ≡ true)
 lives-nil s loads q k = (λ h. to (accepting s (q .location)) refl (modelOf s .live q) refl h, λ f. from (accepting s (q .location)) refl f)
   where
     to : (a : Bool) → accepting s (q .location) ≡ a → (b : Bool) → modelOf s .live q ≡ b → Lives (prospect (modelOf s) [] q) → modelOf s .live q ≡ true

@@ -9,7 +9,7 @@ use Prim.Native.Nat.{ℕ, zero, suc, _+_, _-_, _≤_}
 use native.Mathlib.Omega.{arith}
 use lib.Dec.{ltb}
 use borrow.Author.Tests.{ltb-true, ltb-false}
-use Rattle.enforcement.specs.Automaton.{Bytes, automaton}
+use Rattle.enforcement.specs.Automaton.{Bytes}
 use Rattle.enforcement.specs.TimedWord.{Configuration, step}
 use Rattle.enforcement.specs.Model.{top, advance, headroom, Prospect, ticks, extensible, dead, later, better, afterStep, waits, prospect}
 use Rattle.enforcement.proofs.Saturation.{configuration-path}
@@ -129,7 +129,7 @@ module _ (G : Prospect → ℕ → Type 0) (g : Timed G) where
           inr (r .1 (u, omega arith, q, ap (st c) (advance-more 1 u p ∙ ap (λ (n : ℕ). advance n p) z) ∙ e, subst (G (f q)) (let z : d + suc u ≡ suc d + u = omega arith in z) m))
 
   -- A prospect is of the kind at a date just when after some wait the action leads to one.
-  pub prospect-timed : (s : Bytes) (c : ℕ) (cs : List ℕ) (p : Configuration) (d : ℕ) → Saturated p → G (prospect (modelOf s) (c ∷ cs) p) d ↔ ((u : ℕ) × (q : Configuration) × (step (automaton s) c (advance u p) ≡ some q) × G (prospect (modelOf s) cs q) (d + u))
+  pub prospect-timed : (s : Bytes) (c : ℕ) (cs : List ℕ) (p : Configuration) (d : ℕ) → Saturated p → G (prospect (modelOf s) (c ∷ cs) p) d ↔ ((u : ℕ) × (q : Configuration) × (step s c (advance u p) ≡ some q) × G (prospect (modelOf s) cs q) (d + u))
   prospect-timed s c cs p d h =
       let w = waits-kind (modelOf s .step) c (prospect (modelOf s) cs) (headroom p) p d h in
       let e = prospect-cons (modelOf s) c cs p in (
@@ -137,12 +137,12 @@ module _ (G : Prospect → ℕ → Type 0) (g : Timed G) where
         λ v. subst⁻¹ (λ (a : Prospect). G a d) e (w .1 (go (v .0) (v .1) (v .2) (v .3) (ltb (v .0) (headroom p)) refl)),
       )
     where
-      go : (u : ℕ) (q : Configuration) → step (automaton s) c (advance u p) ≡ some q → G (prospect (modelOf s) cs q) (d + u) → (b : Bool) → ltb u (headroom p) ≡ b → Soon (modelOf s .step) c (prospect (modelOf s) cs) (headroom p) p d
+      go : (u : ℕ) (q : Configuration) → step s c (advance u p) ≡ some q → G (prospect (modelOf s) cs q) (d + u) → (b : Bool) → ltb u (headroom p) ≡ b → Soon (modelOf s .step) c (prospect (modelOf s) cs) (headroom p) p d
       go u q e m true l = (u, omega (arith, ltb-true u (headroom p) l), q, step-is s c (advance u p) ∙ e, m)
       go u q e m false l =
           let k = ltb-false u (headroom p) l in
-          (headroom p, omega arith, q, step-is s c (advance (headroom p) p) ∙ ap (step (automaton s) c) (sym (advance-most u p h k)) ∙ e, g .sooner (prospect (modelOf s) cs q) (d + headroom p) (d + u) (omega arith) m)
+          (headroom p, omega arith, q, step-is s c (advance (headroom p) p) ∙ ap (step s c) (sym (advance-most u p h k)) ∙ e, g .sooner (prospect (modelOf s) cs q) (d + headroom p) (d + u) (omega arith) m)
 
 -- The same of a kind that does not ask for the date.
-pub prospect-kind : (G : Prospect → Type 0) → Kind G → (s : Bytes) (c : ℕ) (cs : List ℕ) (p : Configuration) → Saturated p → G (prospect (modelOf s) (c ∷ cs) p) ↔ ((u : ℕ) × (q : Configuration) × (step (automaton s) c (advance u p) ≡ some q) × G (prospect (modelOf s) cs q))
+pub prospect-kind : (G : Prospect → Type 0) → Kind G → (s : Bytes) (c : ℕ) (cs : List ℕ) (p : Configuration) → Saturated p → G (prospect (modelOf s) (c ∷ cs) p) ↔ ((u : ℕ) × (q : Configuration) × (step s c (advance u p) ≡ some q) × G (prospect (modelOf s) cs q))
 prospect-kind G g s c cs p h = prospect-timed (λ a d. G a) (timeless g) s c cs p 0 h

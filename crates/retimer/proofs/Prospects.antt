@@ -8,8 +8,8 @@ use native.Mathlib.Numerals.{add-one}
 use lib.ListN.{length, getD, drop}
 use lib.Seq.{drop-cons}
 use Rattle.enforcement.specs.Limits.{maxCount}
-use Rattle.enforcement.specs.Automaton.{Bytes, automaton}
-use Rattle.enforcement.specs.Loading.{Loads}
+use Rattle.enforcement.specs.Automaton.{Bytes}
+use Rattle.enforcement.specs.Loading.{WellFormed}
 use Rattle.enforcement.specs.TimedWord.{Configuration, step}
 use Rattle.enforcement.specs.Model.{top, width, ticks, Compiled, compile, prospect}
 use Rattle.enforcement.proofs.Loading.{header}
@@ -19,9 +19,9 @@ use Rattle.retimer.specs.Readings.{Readings, waited, Standing}
 use Rattle.retimer.specs.Optimum.{modelOf}
 
 -- The model's steps are the automaton's.
-pub step-is : (s : Bytes) (c : ℕ) (p : Configuration) → modelOf s .step c p ≡ step (automaton s) c p
+pub step-is : (s : Bytes) (c : ℕ) (p : Configuration) → modelOf s .step c p ≡ step s c p
 unfolding compile
-step-is s c p = steps-is (automaton s) c p
+step-is s c p = steps-is s c p
 
 -- An action is left.
 pub left-some : (cs : List ℕ) (k : ℕ) → k < length cs → drop k cs ≡ getD cs k 0 ∷ drop (k + 1) cs
@@ -32,7 +32,7 @@ pub ticks-most : (m : Compiled) (cs : List ℕ) (p : Configuration) (n : ℕ) �
 ticks-most m cs p n e = subst (AtMost (top * length cs)) e (prospect-most m cs p)
 
 -- The location of a configuration is one of those that a set can have.
-pub located-in : {s : Bytes} {l : ℕ} {r : List ℕ} → Loads s → Standing s l r → l < maxCount
+pub located-in : {s : Bytes} {l : ℕ} {r : List ℕ} → WellFormed s → Standing s l r → l < maxCount
 located-in {s} h g = omega (arith, header s h .locations-fit, g .in-sheet)
 
 -- ---- The order in which the reading of dates falls: actions left, then ticks below saturation

@@ -71,9 +71,9 @@ replaying-one {b₀} {b} {s} {i} {a} {r} p h c =
 pub replaying-valid : {b₀ b : Monitor} {s : Bytes} {i : ℕ} {a : Answer} → Valid b₀ → Replaying b₀ s i b a → Valid b
 replaying-valid v p = made-valid v (p .made)
 
-pub replaying-all : {sheet : Bytes} {b₀ b : Monitor} {s : Bytes} {i : ℕ} {a : Answer} (k : Checked) → FreshRight sheet b₀ → Replaying b₀ s i b a → length s < i + 5 → Followed sheet (callsOf s) (record { checked = k; monitor = b; answer = a })
-replaying-all {sheet} {b₀} {b} {s} {i} k f p h =
+pub replaying-all : {sheet : Bytes} {d : ℕ} {b₀ b : Monitor} {s : Bytes} {i : ℕ} {a : Answer} (k : Checked) → FreshRight sheet d b₀ → Replaying b₀ s i b a → length s < i + 5 → Followed sheet d (callsOf s) (record { checked = k; monitor = b; answer = a })
+replaying-all {sheet} {d} {b₀} {b} {s} {i} k f p h =
     let n : i / 5 ≡ length s / 5 = omega (arith, p .whole, p .inside) in
     let m : Made b₀ (callsOf s) (p .answers) b = rw n at (p .made) in
-    let d : CodeDemand3 sheet (callsOf s) (p .answers) b = code-demand-3 sheet b₀ f (callsOf s) (p .answers) b m in
-    record { answers = p .answers; demand-3 = d; answer-is = p .last-is; held-count = λ h e. p .held-count h e ∙ ap length (d .stands .pending-is) }
+    let z : CodeDemand3 sheet d (callsOf s) (p .answers) b = code-demand-3 sheet d b₀ f (callsOf s) (p .answers) b m in
+    record { answers = p .answers; demand-3 = z; answer-is = p .last-is; held-count = λ h e. p .held-count h e ∙ ap length (z .stands .pending-is) }

@@ -13,7 +13,7 @@ use lib.ListN.{length, getD, drop, replicate, length-replicate}
 use borrow.Author.Tests.{eqb-true, eqb-false, eq-eqb}
 use Rattle.enforcement.specs.Limits.{maxCount}
 use Rattle.enforcement.specs.Automaton.{bit, word, locations, transitionAt}
-use Rattle.enforcement.specs.Loading.{Loads, Fits}
+use Rattle.enforcement.specs.Loading.{WellFormed, Fits}
 use Rattle.enforcement.proofs.Tests.{T-true}
 use Rattle.enforcement.proofs.Loading.{header}
 use Rattle.enforcement.proofs.Bits.{bit-none, bit-beyond, or-cases, lowest-is, dropped-is}
@@ -160,7 +160,7 @@ pub record InPlay (s cs : List ℕ) (k x y : ℕ) (here : List ℕ) (places₀ b
   pub second-kept : length second ≡ length second₀
 
 -- A set of the automaton's locations is a number of 16 bits.
-few-places : {s : List ℕ} {x y : ℕ} {here : List ℕ} {places best : ℕ} → Loads s → Chain s x y here places best → places < 2 ^ 16
+few-places : {s : List ℕ} {x y : ℕ} {here : List ℕ} {places best : ℕ} → WellFormed s → Chain s x y here places best → places < 2 ^ 16
 few-places {s} {x} {y} {here} {places} loads ch = elim (le-or-lt (2 ^ 16) places) [
   | inl h ↦ (let b = bit-beyond 16 places h in absurd (omega (arith, b .1, ch .in-sheet (b .0) (T-true (b .2)), header s loads .locations-fit)))
   | inr h ↦ h

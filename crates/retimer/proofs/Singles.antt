@@ -9,7 +9,7 @@ use native.Mathlib.Omega.{arith}
 use lib.Dec.{eqb}
 use borrow.Author.Tests.{eqb-true, eqb-false}
 use Rattle.enforcement.specs.Automaton.{Bytes, Transition, transitions, accepting, actions, bit}
-use Rattle.enforcement.specs.Loading.{Loads, AllFit, Bounded}
+use Rattle.enforcement.specs.Loading.{WellFormed, AllFit, Bounded}
 use Rattle.enforcement.specs.TimedWord.{Configuration, fire}
 use Rattle.enforcement.specs.Model.{top, Prospect, ticks, extensible, dead, Compiled, prospect}
 use Rattle.enforcement.specs.Monitor.{isDead, noneNext}
@@ -42,7 +42,7 @@ EndsFor s c x y t = ((t .action ≡ c) × (firstWait t x y < endWait t x y)) × 
 
 -- ---- A single action
 
-module _ (s : Bytes) (loads : Loads s) (p : Configuration) (h : Saturated p) where
+module _ (s : Bytes) (loads : WellFormed s) (p : Configuration) (h : Saturated p) where
   -- It has a correction just when a transition for it, enabled after some wait, has an accepting target.
   pub single-ends : (c : ℕ) → Ends (prospect (modelOf s) (c ∷ []) p) ↔ One (EndsFor s c (p .x) (p .y)) (transitions s (p .location))
   unfolding Bounded
@@ -94,7 +94,7 @@ none-next-finds m p (suc n) = go (isDead (prospect m (n ∷ []) p)) refl (noneNe
     go false e b f = record { passes = λ k. let z : _≡_ {A = ℕ} 0 1 = cc in absurd (omega arith); fails = λ k. (n, omega arith, not-dead (prospect m (n ∷ []) p) e) }
 
 -- Some next action is not dead just when a transition leads, after some wait, to a live configuration.
-pub next-lives : (s : Bytes) → Loads s → (p : Configuration) → Saturated p → NextLives (modelOf s) p (actions s) ↔ One (Leads (LiveIn s) (p .x) (p .y) 0) (transitions s (p .location))
+pub next-lives : (s : Bytes) → WellFormed s → (p : Configuration) → Saturated p → NextLives (modelOf s) p (actions s) ↔ One (Leads (LiveIn s) (p .x) (p .y) 0) (transitions s (p .location))
 unfolding Bounded
 next-lives s loads p h = (
   λ w. one-map (transitions s (p .location)) fit (λ t f v. v .1) (single-lives s loads p h (w .0) .0 (w .2)),

@@ -9,8 +9,8 @@ use Prim.Native.Nat.{ℕ}
 use native.Mathlib.Omega.{arith}
 use lib.Dec.{eqb}
 use borrow.Author.Tests.{eqb-true}
-use Rattle.enforcement.specs.Automaton.{Bytes, Transition, automaton, transitions, enabled}
-use Rattle.enforcement.specs.Loading.{Loads, Fits, AllFit}
+use Rattle.enforcement.specs.Automaton.{Bytes, Transition, transitions, enabled}
+use Rattle.enforcement.specs.Loading.{WellFormed, Fits, AllFit}
 use Rattle.enforcement.specs.TimedWord.{Configuration, fire, fireFirst, step}
 use Rattle.enforcement.proofs.Tests.{true-T}
 use Rattle.enforcement.proofs.Overlaps.{only-step}
@@ -37,13 +37,13 @@ first-one c p q (u ∷ ts) e = go (eqb (u .action) c) refl (enabled u (p .x) (p 
     go true x false y k r = inr (r k)
     go false x b y k r = inr (r k)
 
-module _ (s : Bytes) (loads : Loads s) where
-  one-step : (c : ℕ) (p q : Configuration) (us ts : List Transition) → transitions s (p .location) ≡ us ++ ts → One (Taken c p q) ts → step (automaton s) c p ≡ some q
+module _ (s : Bytes) (loads : WellFormed s) where
+  one-step : (c : ℕ) (p q : Configuration) (us ts : List Transition) → transitions s (p .location) ≡ us ++ ts → One (Taken c p q) ts → step s c p ≡ some q
   one-step c p q us [] x w = absurd w
   one-step c p q us (u ∷ ts) x (inl w) =
-      ap (λ (k : ℕ). step (automaton s) k p) (sym (w .0)) ∙ only-step s (deterministic s loads) (p .location) p refl us u ts x (true-T (w .1)) ∙ ap some (w .2)
+      ap (λ (k : ℕ). step s k p) (sym (w .0)) ∙ only-step s (deterministic s loads) (p .location) p refl us u ts x (true-T (w .1)) ∙ ap some (w .2)
   one-step c p q us (u ∷ ts) x (inr w) = one-step c p q (us ++ (u ∷ [])) ts (x ∙ sym (append-assoc us (u ∷ []) ts)) w
 
-  pub step-one : (c : ℕ) (p q : Configuration) → (step (automaton s) c p ≡ some q) ↔ One (Taken c p q) (transitions s (p .location))
+  pub step-one : (c : ℕ) (p q : Configuration) → (step s c p ≡ some q) ↔ One (Taken c p q) (transitions s (p .location))
   unfolding step
   step-one c p q = (first-one c p q (transitions s (p .location)), one-step c p q [] (transitions s (p .location)) refl)

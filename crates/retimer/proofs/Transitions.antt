@@ -8,8 +8,8 @@ use Prim.Native.Nat.{ℕ, suc, _+_, _*_, _-_, _≤_, _<_, _/_, _%_}
 use native.Mathlib.Omega.{arith}
 use lib.ListN.{length}
 use borrow.Author.Tests.{eq-eqb, ne-eqb}
-use Rattle.enforcement.specs.Automaton.{Bytes, Transition, automaton, byte, word, locations, offset, size, transitionAt, transitionsFrom, enabled}
-use Rattle.enforcement.specs.Loading.{Loads, AllFit, Bounded}
+use Rattle.enforcement.specs.Automaton.{Bytes, Transition, byte, word, locations, offset, size, transitionAt, transitionsFrom, enabled}
+use Rattle.enforcement.specs.Loading.{WellFormed, AllFit, Bounded}
 use Rattle.enforcement.specs.TimedWord.{Configuration, fire, fireFirst, step}
 use Rattle.enforcement.proofs.Pairs.{transitions-known, layout-after, layout-inside}
 use Rattle.enforcement.proofs.Loading.{layout, bounded}
@@ -37,10 +37,10 @@ pub record Remaining (s : Bytes) (c : ℕ) (q : Configuration) (p e : ℕ) : Typ
   pub inside : e ≤ length s
   pub whole : (e - p) % 7 ≡ 0
   pub fit : AllFit s (transitionsFrom s ((e - p) / 7) p)
-  pub rest : fireFirst (transitionsFrom s ((e - p) / 7) p) c q ≡ step (automaton s) c q
+  pub rest : fireFirst (transitionsFrom s ((e - p) / 7) p) c q ≡ step s c q
 
 -- Where a location's transitions lie.
-pub begun : (s : Bytes) (c l x y : ℕ) → Loads s → l < locations s → Remaining s c (record { location = l; x = x; y = y }) (offset s l) (offset s l + size s l)
+pub begun : (s : Bytes) (c l x y : ℕ) → WellFormed s → l < locations s → Remaining s c (record { location = l; x = x; y = y }) (offset s l) (offset s l + size s l)
 unfolding step Bounded
 begun s c l x y h k =
     let d = layout s h in
@@ -57,7 +57,7 @@ begun s c l x y h k =
     }
 
 -- The same as the code reads it, w for the location.
-pub begun-at : (s : Bytes) (c l x y w v n : ℕ) → Loads s → l < locations s → w ≡ l → v ≡ word s (6 + 4 * w) → n ≡ word s (6 + 4 * w + 2) → Remaining s c (record { location = l; x = x; y = y }) v (v + n)
+pub begun-at : (s : Bytes) (c l x y w v n : ℕ) → WellFormed s → l < locations s → w ≡ l → v ≡ word s (6 + 4 * w) → n ≡ word s (6 + 4 * w + 2) → Remaining s c (record { location = l; x = x; y = y }) v (v + n)
 begun-at s c l x y w v n h k d e f =
     let a : v ≡ offset s l = e ∙ ap (λ (i : ℕ). word s (6 + 4 * i)) d in
     let m : 6 + 4 * w + 2 ≡ 8 + 4 * l = omega arith in
@@ -72,7 +72,7 @@ module _ {s : Bytes} {c : ℕ} {q : Configuration} {p e : ℕ} (m : Remaining s 
   fits-here : p < e → AllFit s (transitionAt s p ∷ transitionsFrom s ((e - (p + 7)) / 7) (p + 7))
   fits-here h = rw (next s p e h (m .whole)) at (m .fit)
 
-  steps-here : p < e → step (automaton s) c q ≡ fireFirst (transitionAt s p ∷ transitionsFrom s ((e - (p + 7)) / 7) (p + 7)) c q
+  steps-here : p < e → step s c q ≡ fireFirst (transitionAt s p ∷ transitionsFrom s ((e - (p + 7)) / 7) (p + 7)) c q
   steps-here h = sym (m .rest) ∙ ap (λ (ts : List Transition). fireFirst ts c q) (next s p e h (m .whole))
 
   pub passed : p < e → applies s p c (q .x) (q .y) ≡ false → Remaining s c q (p + 7) e
@@ -87,11 +87,11 @@ module _ {s : Bytes} {c : ℕ} {q : Configuration} {p e : ℕ} (m : Remaining s 
         rest = sym (steps-here h ∙ rw a refl);
       }
 
-  pub taken : p < e → applies s p c (q .x) (q .y) ≡ true → step (automaton s) c q ≡ some (fire (transitionAt s p) q)
+  pub taken : p < e → applies s p c (q .x) (q .y) ≡ true → step s c q ≡ some (fire (transitionAt s p) q)
   unfolding fireFirst applies
   taken h a = steps-here h ∙ rw a refl
 
-  pub exhausted : e ≤ p → step (automaton s) c q ≡ none
+  pub exhausted : e ≤ p → step s c q ≡ none
   unfolding fireFirst
   exhausted h = let n : (e - p) / 7 ≡ 0 = omega arith in sym (m .rest) ∙ rw n refl
 

@@ -55,9 +55,9 @@ noRequest = record { action = 0; number = 0; offered = 0 }
 abbrev pub noSlot : Slot
 noSlot = record { request = noRequest; date = 0 }
 
--- A state before any call, at a location with readings: date 0, with nothing pending, scheduled or numbered.
-abbrev pub initialState : ℕ → List ℕ → Bool → State
-initialState l r x = record { date = 0; pending = replicate maxCount noRequest; held = 0; schedule = replicate maxScheduled noSlot; planned = 0; location = l; readings = r; last = 0; numbered = 0; lit = x }
+-- A state before any call, at a date, location and readings: the last scheduled date is that date too, and nothing is pending, scheduled or numbered.
+abbrev pub initialState : ℕ → ℕ → List ℕ → Bool → State
+initialState d l r x = record { date = d; pending = replicate maxCount noRequest; held = 0; schedule = replicate maxScheduled noSlot; planned = 0; location = l; readings = r; last = d; numbered = 0; lit = x }
 
 -- A refusal hands back the state that came.
 abbrev pub refusal : State → Reason → Moved
@@ -139,37 +139,37 @@ placedOf s q t cs ds last = placed (modelOf s) (view q) (lastAction q cs) t (new
 -- What a call on a state promises: what `CallRight` says, of the state beside its sheet and table.
 pub record MoveRight (s : Bytes) (live : List ℕ) (q : State) (k : Call) (r : Moved) : Type 0 where
   pub is : movedOf r ≡ answer (modelOf s) (view q) k
-  pub rule : (h : History) → StandsFor (automaton s) (view q) h → Demand2 (automaton s) h k (movedOf r)
+  pub rule : (d : ℕ) (h : History) → StandsFor (automaton s d) (view q) h → Demand2 (automaton s d) h k (movedOf r)
   pub valid : StateValid s live (r .state)
   pub refused-same : (p : Reason) → r .answer ≡ Refused p → r .state ≡ q
   pub idle-same : Idle (r .answer) → r .state ≡ movedTo q (r .state .date) (r .state .numbered) (r .state .lit)
   pub held-count : (n : ℕ) → r .answer ≡ Held n → n ≡ length (view (r .state) .pending)
 
--- What a call promises (demand 2): answer and box are the model's; for every history that the box stands for, the answer is the history's, and the box
+-- What a call promises (demand 2): answer and box are the model's; for every loading date and history that the box stands for, the answer is the history's, and the box
 -- stands for the history after it; the box is one, with bytes and table as they were; a refusal hands back the box that came, lamp included, and where nothing is held, scheduled or
 -- played only its date, count and lamp may have moved; "held" has the held list's own length.
 pub record CallRight (b : Monitor) (k : Call) (r : Answered) : Type 0 where
   pub is : answeredOf r ≡ answer (modelOf (bytesOf b)) (viewOf b) k
-  pub rule : (h : History) → StandsFor (automatonOf b) (viewOf b) h → Demand2 (automatonOf b) h k (answeredOf r)
+  pub rule : (d : ℕ) (h : History) → StandsFor (automatonOf b d) (viewOf b) h → Demand2 (automatonOf b d) h k (answeredOf r)
   pub valid : Valid (r .monitor)
   pub kept : r .monitor ≡ withState b (r .monitor .state)
   pub idle-same : Idle (r .answer) → r .monitor .state ≡ movedTo (b .state) (r .monitor .state .date) (r .monitor .state .numbered) (r .monitor .state .lit)
   pub refused-same : (q : Reason) → r .answer ≡ Refused q → r .monitor ≡ b
   pub held-count : (n : ℕ) → r .answer ≡ Held n → n ≡ length (viewOf (r .monitor) .pending)
 
--- What a fresh box is: a box of the sheet that stands for the history of no calls: nothing pending or scheduled, and its lamp by document 01's rule.
-pub record FreshRight (s : Bytes) (b : Monitor) : Type 0 where
-  pub is : viewOf b ≡ freshMonitor (automatonOf b)
-  pub stands : StandsFor (automatonOf b) (viewOf b) (fresh (automatonOf b))
+-- What a fresh box is: a box of the sheet, loaded at d, that stands for the history of no calls: date and last scheduled date are d, clocks read 0 there, nothing is pending or scheduled, and its lamp is by document 01's rule.
+pub record FreshRight (s : Bytes) (d : ℕ) (b : Monitor) : Type 0 where
+  pub is : viewOf b ≡ freshMonitor (automatonOf b d)
+  pub stands : StandsFor (automatonOf b d) (viewOf b) (fresh (automatonOf b d))
   pub sheet : bytesOf b ≡ s
   pub valid : Valid b
 
 -- What stands in the box's place where there is none: no sheet, zeros throughout, and a dark lamp.
 unfoldable pub noMonitor : Monitor
-noMonitor = record { bytes = replicate maxSize 0; size = 0; live = replicate countsSize 0; state = initialState 0 (0 ∷ 0 ∷ []) false }
+noMonitor = record { bytes = replicate maxSize 0; size = 0; live = replicate countsSize 0; state = initialState 0 0 (0 ∷ 0 ∷ []) false }
 
--- What a load promises: the check's answer; where that accepts the sheet, a fresh box; where it does not, no box.
-pub record LoadRight (s : Bytes) (r : Loaded) : Type 0 where
-  pub checked : checkedOf (r .checked) ≡ check s
-  pub fresh : Loads s → FreshRight s (r .monitor)
-  pub no-box : (Loads s → ⊥) → r .monitor ≡ noMonitor
+-- What a load at d promises: the check's answer; where that accepts sheet and date, a fresh box; where it does not, no box.
+pub record LoadRight (s : Bytes) (d : ℕ) (r : Loaded) : Type 0 where
+  pub checked : checkedOf (r .checked) ≡ check s d
+  pub fresh : Loads s d → FreshRight s d (r .monitor)
+  pub no-box : (Loads s d → ⊥) → r .monitor ≡ noMonitor

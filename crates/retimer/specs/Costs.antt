@@ -7,7 +7,7 @@ use lib.ListN.{length, getD, drop}
 use Rattle.enforcement.specs.Limits.{maxCount}
 use Rattle.enforcement.specs.Automaton.{Bytes, locations}
 use Rattle.enforcement.specs.TimedWord.{Configuration}
-use Rattle.enforcement.specs.Loading.{Loads}
+use Rattle.enforcement.specs.Loading.{WellFormed}
 use Rattle.enforcement.specs.Model.{top, width, Prospect, ticks, extensible, dead, prospect}
 use Rattle.retimer.specs.Optimum.{modelOf}
 
@@ -65,7 +65,7 @@ pub record Known (s : Bytes) (cs : List ℕ) (second : Bool) (memo : List ℕ) :
 
 -- What the search rests on throughout.
 pub record Ground (s : Bytes) (cs first second : List ℕ) : Type 0 where
-  pub loads : Loads s
+  pub loads : WellFormed s
   pub few : length cs ≤ maxCount + 1
   pub after-first : Known s cs false first
   pub after-second : Known s cs true second

@@ -8,6 +8,7 @@ use Rattle.enforcement.specs.Automaton.{Bytes, automaton}
 use Rattle.enforcement.specs.History.{History, fresh, Call, offer, lamp, Outcome, HistoryOf, Schedulable}
 use Rattle.enforcement.specs.History as reference
 use Rattle.enforcement.specs.Demands.{StandsFor, Admitted}
+use Rattle.enforcement.specs.Shift.{shiftOutcome, shiftMonitor}
 use Rattle.retimer.specs.declared.limits.Monitor.{Monitor}
 use Rattle.retimer.specs.declared.state.Answer.{Answer}
 use Rattle.retimer.specs.declared.state.Answer.the-variants.{Dropped, Lit, Dark}
@@ -23,20 +24,26 @@ pub data Made : Monitor → List Call → List Answer → Monitor → Type 0 whe
 abbrev pub outcomesOf : List Answer → List Outcome
 outcomesOf xs = map outcomeOf xs
 
--- Of the calls ks on a fresh box of the sheet s, which answered xs and left the box b. The outcomes are those of the calls' history, which is the only one, and
+-- Of the calls ks on a fresh box of the sheet s, loaded at d, which answered xs and left the box b. The outcomes are those of the calls' history, which is the only one, and
 -- the box stands for it: it has its date, pending actions and schedule, with their numbers and offered dates, its count, and the configuration and date last reached. The lamp that b stores is lit exactly when no run of further offers could get one more action
 -- scheduled, else dark, which is document 01's rule; a lamp call on b answers it. Once lit, the lamp is lit after every longer list, and there every offer that is not refused for its
 -- action or date, nor with S-5, is dropped.
-pub record CodeDemand3 (s : Bytes) (ks : List Call) (xs : List Answer) (b : Monitor) : Type 0 where
+pub record CodeDemand3 (s : Bytes) (d : ℕ) (ks : List Call) (xs : List Answer) (b : Monitor) : Type 0 where
   pub history : History
-  pub recorded : HistoryOf (automaton s) (fresh (automaton s)) ks (outcomesOf xs) history
-  pub only : (os : List Outcome) (h : History) → HistoryOf (automaton s) (fresh (automaton s)) ks os h → (os ≡ outcomesOf xs) × (h ≡ history)
-  pub stands : StandsFor (automaton s) (viewOf b) history
-  pub lit-is : (b .state .lit ≡ true) ↔ (Schedulable (automaton s) history → ⊥)
-  pub dark-is : (b .state .lit ≡ false) ↔ Schedulable (automaton s) history
-  pub rule-is : reference.Dark (automaton s) history ↔ Schedulable (automaton s) history
+  pub recorded : HistoryOf (automaton s d) (fresh (automaton s d)) ks (outcomesOf xs) history
+  pub only : (os : List Outcome) (h : History) → HistoryOf (automaton s d) (fresh (automaton s d)) ks os h → (os ≡ outcomesOf xs) × (h ≡ history)
+  pub stands : StandsFor (automaton s d) (viewOf b) history
+  pub lit-is : (b .state .lit ≡ true) ↔ (Schedulable (automaton s d) history → ⊥)
+  pub dark-is : (b .state .lit ≡ false) ↔ Schedulable (automaton s d) history
+  pub rule-is : reference.Dark (automaton s d) history ↔ Schedulable (automaton s d) history
   pub answers-lamp : (r : Answered) → CallRight b lamp r → r .answer ≡ cond (b .state .lit) Lit Dark
   pub stays-lit : b .state .lit ≡ true → (more : List Call) (ys : List Answer) (b′ : Monitor) → Made b more ys b′ → b′ .state .lit ≡ true
-  pub drops : b .state .lit ≡ true → (more : List Call) (ys : List Answer) (b′ : Monitor) → Made b more ys b′ → (c t : ℕ) → Admitted (automaton s) (viewOf b′) c t → (q : Answered) → CallRight b′ (offer c t) q → q .answer ≡ Dropped
+  pub drops : b .state .lit ≡ true → (more : List Call) (ys : List Answer) (b′ : Monitor) → Made b more ys b′ → (c t : ℕ) → Admitted (automaton s d) (viewOf b′) c t → (q : Answered) → CallRight b′ (offer c t) q → q .answer ≡ Dropped
   pub sheet-is : bytesOf b ≡ s
   pub valid : Valid b
+
+-- Of two boxes of one sheet, the second loaded d ticks later and given the first one's calls d ticks later: they answered xs and ys and are b and c now. The outcomes are the same, d ticks later, and so is the box: date, held list and
+-- schedule, the date last reached, and with it location, readings, count and lamp as they were.
+pub record BoxesAlike (d : ℕ) (xs ys : List Answer) (b c : Monitor) : Type 0 where
+  pub outcomes-are : outcomesOf ys ≡ map (shiftOutcome d) (outcomesOf xs)
+  pub box-is : viewOf c ≡ shiftMonitor d (viewOf b)

@@ -8,7 +8,7 @@ use lib.ListN.{length, getD, drop}
 use Rattle.enforcement.specs.Limits.{maxCount}
 use Rattle.enforcement.specs.Automaton.{Bytes, Transition, bit, locations, transitions, enabled}
 use Rattle.enforcement.specs.TimedWord.{fire}
-use Rattle.enforcement.specs.Loading.{Loads}
+use Rattle.enforcement.specs.Loading.{WellFormed}
 use Rattle.enforcement.specs.Model.{top, width}
 use Rattle.retimer.specs.Steps.{One}
 use Rattle.retimer.specs.Row.{In}
@@ -122,7 +122,7 @@ pub record BoxLowered (v : Transition) (other : List ℕ) (t m : ℕ) (table tab
 
 -- The action k is next, and the tables have the costs of the locations with C after it.
 pub record Laying (s cs : List ℕ) (k : ℕ) (C : ℕ → Type 0) (low high : List ℕ) : Type 0 where
-  pub loads : Loads s
+  pub loads : WellFormed s
   pub more : k < length cs
   pub few : length cs ≤ maxCount + 1
   pub low-layer : Layer s (drop (k + 1) cs) C 0 low

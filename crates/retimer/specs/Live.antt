@@ -7,7 +7,7 @@ use Prim.Native.Nat.{ℕ, _+_, _-_, _%_, _≤_, _<_}
 use lib.Dec.{eqb}
 use lib.ListN.{length, getD}
 use Rattle.enforcement.specs.Limits.{maxCount}
-use Rattle.enforcement.specs.Automaton.{Bytes, Transition, automaton, byte, bit, accepting, clocks, locations, offset, size, transitionAt}
+use Rattle.enforcement.specs.Automaton.{Bytes, Transition, byte, bit, accepting, clocks, locations, offset, size, transitionAt}
 use Rattle.enforcement.specs.Model.{top, compile}
 use Rattle.retimer.specs.Readings.{Standing, located}
 use Rattle.retimer.specs.Counts.{countsSize, counted, place, Closed}
@@ -17,7 +17,7 @@ use Rattle.retimer.specs.Leading.{allRows, member, slack, leads, Others}
 pub record LiveTable (s : Bytes) (t : List ℕ) : Type 0 where
   pub sized : length t ≡ countsSize
   pub fits : locations s ≤ maxCount
-  pub right : (l : ℕ) (r : List ℕ) → Standing s l r → counted t l (getD r 0 0) (getD r 1 0) ≡ compile (automaton s) .live (located l r)
+  pub right : (l : ℕ) (r : List ℕ) → Standing s l r → counted t l (getD r 0 0) (getD r 1 0) ≡ compile s .live (located l r)
   pub rest : (j : ℕ) → ((l : ℕ) (r : List ℕ) → Standing s l r → j ≡ place l (getD r 0 0) (getD r 1 0) → ⊥) → getD t j 0 ≡ 0
 
 -- ---- How it is found
@@ -38,7 +38,7 @@ pub record Stands (s : Bytes) (l x y : ℕ) : Type 0 where
 
 -- An accepting location can still be reached.
 abbrev pub alive : Bytes → ℕ → ℕ → ℕ → Bool
-alive s l x y = compile (automaton s) .live (record { location = l; x = x; y = y })
+alive s l x y = compile s .live (record { location = l; x = x; y = y })
 
 -- Every configuration of the rows is live.
 pub record Sound (s : Bytes) (t : List ℕ) : Type 0 where
@@ -63,7 +63,7 @@ Ticked s t l = Closed t (least s) l
 pub record LiveSet (s : Bytes) (t : List ℕ) : Type 0 where
   pub sized : length t ≡ allRows
   pub fits : locations s ≤ maxCount
-  pub right : (l : ℕ) (r : List ℕ) → Standing s l r → member t l (getD r 0 0) (getD r 1 0) ≡ compile (automaton s) .live (located l r)
+  pub right : (l : ℕ) (r : List ℕ) → Standing s l r → member t l (getD r 0 0) (getD r 1 0) ≡ compile s .live (located l r)
   pub ticked : (l : ℕ) → l < locations s → Ticked s t l
 
 -- The rows u come from t: only those of the location l are others, and have grown, if b.

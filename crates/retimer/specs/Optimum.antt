@@ -4,8 +4,8 @@ use mathlib.Core.List.{List}
 use Prim.Native.Nat.{ℕ, _+_, _≤_}
 use lib.ListN.{length, take, drop}
 use Rattle.enforcement.specs.Limits.{maxCount, maxDate}
-use Rattle.enforcement.specs.Automaton.{Bytes, automaton}
-use Rattle.enforcement.specs.Loading.{Loads}
+use Rattle.enforcement.specs.Automaton.{Bytes}
+use Rattle.enforcement.specs.Loading.{WellFormed}
 use Rattle.enforcement.specs.Model.{ticks, Compiled, compile, prospect, dates}
 use Rattle.enforcement.specs.Monitor.{walk}
 use Rattle.retimer.specs.declared.optimum.Planned.{Planned}
@@ -14,11 +14,11 @@ use Rattle.retimer.specs.Live.{LiveTable}
 
 -- The automaton as the model reads it.
 abbrev pub modelOf : Bytes → Compiled
-modelOf s = compile (automaton s)
+modelOf s = compile s
 
--- What the search is given: an automaton that loads, a list that has a correction and no more actions than a correction can, a configuration, a date, and room for the dates.
+-- What the search is given: a well-formed sheet, a list that has a correction and no more actions than a correction can, a configuration, a date, and room for the dates.
 pub record Asked (s : Bytes) (cs : List ℕ) (l : ℕ) (r : List ℕ) (t : ℕ) (out : List ℕ) : Type 0 where
-  pub loads : Loads s
+  pub loads : WellFormed s
   pub few : length cs ≤ maxCount + 1
   pub standing : Standing s l r
   pub correctable : (n : ℕ) × (prospect (modelOf s) cs (located l r) ≡ ticks n)
@@ -35,6 +35,6 @@ pub record PlanRight (s : Bytes) (cs : List ℕ) (l : ℕ) (r : List ℕ) (t : �
 
 -- What the lamp and the decision are given.
 pub record LampAsked (s : Bytes) (live : List ℕ) (l : ℕ) (r : List ℕ) : Type 0 where
-  pub loads : Loads s
+  pub loads : WellFormed s
   pub table : LiveTable s live
   pub standing : Standing s l r

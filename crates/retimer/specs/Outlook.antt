@@ -6,7 +6,7 @@ use mathlib.Core.Logic.{_↔_}
 use Prim.Native.Nat.{ℕ, _-_, _<_}
 use lib.ListN.{length, take}
 use Rattle.enforcement.specs.Automaton.{Bytes}
-use Rattle.enforcement.specs.Loading.{Loads}
+use Rattle.enforcement.specs.Loading.{WellFormed}
 use Rattle.enforcement.specs.TimedWord.{Configuration}
 use Rattle.enforcement.specs.Model.{Prospect, ticks, extensible, dead, prospect}
 use Rattle.retimer.specs.declared.outlook.Outlook.{Outlook}
@@ -62,7 +62,7 @@ RatedLast s set next o = OutlookBy (Some Ends s [] next) (SomeLive s next) (Some
 
 -- What is asked for the members of a set.
 pub record SetAsked (s : Bytes) (live set : List ℕ) (places : ℕ) : Type 0 where
-  pub loads : Loads s
+  pub loads : WellFormed s
   pub table : LiveTable s live
   pub reached : Reached s set places
 

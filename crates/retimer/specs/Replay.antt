@@ -33,16 +33,16 @@ abbrev pub lastOutcome : Outcome → List Outcome → Outcome
 lastOutcome o [] = o
 lastOutcome o (p ∷ os) = lastOutcome p os
 
--- Demand 3 of the calls from a fresh box of the sheet, entire: answers whose outcomes are the history's, and the box with its lamp. The answer handed back is the last one ("none" where there was no call),
+-- Demand 3 of the calls from a fresh box of the sheet, loaded at d, entire: answers whose outcomes are the history's, and the box with its lamp. The answer handed back is the last one ("none" where there was no call),
 -- and "held" has the held list's own length.
-pub record Followed (s : Bytes) (ks : List Call) (r : Replayed) : Type 0 where
+pub record Followed (s : Bytes) (d : ℕ) (ks : List Call) (r : Replayed) : Type 0 where
   pub answers : List Answer
-  pub demand-3 : CodeDemand3 s ks answers (r .monitor)
+  pub demand-3 : CodeDemand3 s d ks answers (r .monitor)
   pub answer-is : outcomeOf (r .answer) ≡ lastOutcome nothing (outcomesOf answers)
   pub held-count : (n : ℕ) → r .answer ≡ Held n → n ≡ length (demand-3 .history .pending)
 
--- What replaying promises: the check's answer; where that accepts the sheet, the calls were followed; where it does not, there is no box, and no call was made.
-pub record ReplayRight (s calls : Bytes) (r : Replayed) : Type 0 where
-  pub checked : checkedOf (r .checked) ≡ check s
-  pub followed : Loads s → Followed s (callsOf calls) r
-  pub no-box : (Loads s → ⊥) → (r .monitor ≡ noMonitor) × (r .answer ≡ Nothing)
+-- What replaying promises: the check's answer; where that accepts sheet and date, the calls were followed; where it does not, there is no box, and no call was made.
+pub record ReplayRight (s : Bytes) (d : ℕ) (calls : Bytes) (r : Replayed) : Type 0 where
+  pub checked : checkedOf (r .checked) ≡ check s d
+  pub followed : Loads s d → Followed s d (callsOf calls) r
+  pub no-box : (Loads s d → ⊥) → (r .monitor ≡ noMonitor) × (r .answer ≡ Nothing)

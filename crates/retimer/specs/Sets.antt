@@ -8,8 +8,8 @@ use mathlib.Core.Logic.{_⊎_, _↔_}
 use Prim.Native.Nat.{ℕ, _+_, _*_, _^_, _≤_, _<_, min, _-_}
 use lib.ListN.{length, getD}
 use lib.Dec.{eqb}
-use Rattle.enforcement.specs.Automaton.{Bytes, Transition, automaton, transitionAt, transitions, bit, clocks, locations, within, enabled}
-use Rattle.enforcement.specs.Loading.{Loads, Fits}
+use Rattle.enforcement.specs.Automaton.{Bytes, Transition, transitionAt, transitions, bit, clocks, locations, within, enabled}
+use Rattle.enforcement.specs.Loading.{WellFormed, Fits}
 use Rattle.enforcement.specs.TimedWord.{Configuration, step}
 use Rattle.enforcement.specs.Model.{top, width, advance}
 use Rattle.retimer.specs.Steps.{One}
@@ -150,7 +150,7 @@ Leads c src t x i u = (u .action ≡ c) × (t ≡ u .target) × Led u src x i
 
 -- What is asked of the source's rows and of the next set.
 pub record Plays (s : Bytes) (src next : List ℕ) : Type 0 where
-  pub loads : Loads s
+  pub loads : WellFormed s
   pub source : length src ≡ height s
   pub readings : Narrow src
   pub target : Whole s next
@@ -180,7 +180,7 @@ pub record Becomes (s : Bytes) (set : List ℕ) (l : ℕ) (Q : Configuration →
 
 -- After some wait the action leads from a member at location l to row i of location t.
 abbrev pub Moves : Bytes → ℕ → List ℕ → ℕ → ℕ → ℕ → ℕ → Type 0
-Moves s c set l t x i = Becomes s set l (λ (p : Configuration). step (automaton s) c p ≡ some (at (height s) t x i))
+Moves s c set l t x i = Becomes s set l (λ (p : Configuration). step s c p ≡ some (at (height s) t x i))
 
 -- After some wait a member at location l is at row i.
 abbrev pub LaterAt : Bytes → List ℕ → ℕ → ℕ → ℕ → Type 0
@@ -218,7 +218,7 @@ pub record Moved (s : Bytes) (c : ℕ) (set : List ℕ) (q : Configuration) : Ty
   pub from : Configuration
   pub member : Contains s set from
   pub ticks : ℕ
-  pub steps : step (automaton s) c (advance ticks from) ≡ some q
+  pub steps : step s c (advance ticks from) ≡ some q
 
 -- The set has just what the action leads to, after any wait, from the members of another.
 pub record Played (s : Bytes) (c : ℕ) (set new : List ℕ) (places : ℕ) : Type 0 where

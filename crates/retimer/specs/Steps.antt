@@ -7,7 +7,7 @@ use mathlib.Core.Option.{Option, none, some}
 use Prim.Native.Nat.{ℕ, _+_, _≤_}
 use lib.Dec.{eqb}
 use lib.ListN.{length}
-use Rattle.enforcement.specs.Automaton.{Bytes, Transition, automaton, byte, transitionAt, enabled}
+use Rattle.enforcement.specs.Automaton.{Bytes, Transition, byte, transitionAt, enabled}
 use Rattle.enforcement.specs.Loading.{Fits}
 use Rattle.enforcement.specs.TimedWord.{Configuration, fire, step}
 use Rattle.retimer.specs.declared.lookup.Stepped.{Stepped}
@@ -23,7 +23,7 @@ steppedOf v = optional (v .found) (located (v .location) (v .readings))
 
 -- The step is the automaton's; where there is none, the configuration is the one that was left.
 pub record StepRight (s : Bytes) (c l : ℕ) (r : List ℕ) (v : Stepped) : Type 0 where
-  pub is : steppedOf v ≡ step (automaton s) c (located l r)
+  pub is : steppedOf v ≡ step s c (located l r)
   pub stays : v .found ≡ false → (v .location ≡ l) × (v .readings ≡ r)
   pub standing : Standing s (v .location) (v .readings)
 
@@ -35,11 +35,11 @@ applies s p c x y = eqb (byte s p) c && enabled (transitionAt s p) x y
 pub record Taken (s : Bytes) (c l : ℕ) (r : List ℕ) (p : ℕ) : Type 0 where
   pub inside : p + 7 ≤ length s
   pub fits : Fits s (transitionAt s p)
-  pub is : step (automaton s) c (located l r) ≡ some (fire (transitionAt s p) (located l r))
+  pub is : step s c (located l r) ≡ some (fire (transitionAt s p) (located l r))
 
 -- The place of the transition to take; 0 where there is none.
 pub record Placed (s : Bytes) (c l : ℕ) (r : List ℕ) (p : ℕ) : Type 0 where
-  pub nowhere : p ≡ 0 → step (automaton s) c (located l r) ≡ none
+  pub nowhere : p ≡ 0 → step s c (located l r) ≡ none
   pub somewhere : (p ≡ 0 → ⊥) → Taken s c l r p
 
 -- One of some transitions.

@@ -5,7 +5,7 @@ use Prim.Native.Nat.{ℕ, _≤_}
 use lib.ListN.{length, take}
 use Rattle.enforcement.specs.Limits.{maxSize, maxCount, maxScheduled, maxDate, maxNumbered}
 use Rattle.enforcement.specs.Automaton.{Bytes, Automaton, automaton}
-use Rattle.enforcement.specs.Loading.{Loads}
+use Rattle.enforcement.specs.Loading.{WellFormed}
 use Rattle.enforcement.specs.History.{Call, Outcome, History, fresh, HistoryOf}
 use Rattle.enforcement.specs.History as history
 use Rattle.enforcement.specs.Monitor as model
@@ -21,8 +21,9 @@ use Rattle.retimer.specs.Live.{LiveTable}
 abbrev pub bytesOf : Monitor → Bytes
 bytesOf b = take (b .size) (b .bytes)
 
-abbrev pub automatonOf : Monitor → Automaton
-automatonOf b = automaton (bytesOf b)
+-- The automaton of a box that was loaded at d. A box does not keep that date: its own, the last scheduled one and the readings began there.
+abbrev pub automatonOf : Monitor → ℕ → Automaton
+automatonOf b d = automaton (bytesOf b) d
 
 abbrev pub requestOf : Request → history.Request
 requestOf r = record { action = r .action; number = r .number; offered = r .offered }
@@ -43,9 +44,9 @@ view q = record { date = q .date; pending = pendingOf q; schedule = scheduleOf q
 abbrev pub viewOf : Monitor → model.Monitor
 viewOf b = view (b .state)
 
--- A sheet that loads, its table, and a state whose parts fit.
+-- A well-formed sheet, its table, and a state whose parts fit.
 pub record StateSound (s : Bytes) (live : List ℕ) (q : State) : Type 0 where
-  pub loads : Loads s
+  pub loads : WellFormed s
   pub table : LiveTable s live
   pub pending-sized : length (q .pending) ≡ maxCount
   pub held-fits : q .held ≤ maxCount
@@ -62,20 +63,22 @@ pub record Sound (b : Monitor) : Type 0 where
   pub size-fits : b .size ≤ maxSize
   pub state : StateSound (bytesOf b) (b .live) (b .state)
 
--- The calls from a fresh box that gave the box, their history, and that the box stands for it, its lamp by document 01's rule among the rest.
-pub record Recorded (a : Automaton) (v : model.Monitor) : Type 0 where
+-- Some loading date, some calls from a box that is loaded then, their history, and that the box stands for it, its lamp by document 01's rule among the rest.
+pub record Recorded (s : Bytes) (v : model.Monitor) : Type 0 where
+  pub loaded : ℕ
+  pub loaded-fits : loaded ≤ maxDate
   pub past : List Call
   pub outcomes : List Outcome
   pub history : History
-  pub recorded : HistoryOf a (fresh a) past outcomes history
-  pub stands : StandsFor a v history
+  pub recorded : HistoryOf (automaton s loaded) (fresh (automaton s loaded)) past outcomes history
+  pub stands : StandsFor (automaton s loaded) v history
 
--- A state of a sheet: its parts fit, and it stands for the history of some list of calls from a fresh one.
+-- A state of a sheet: its parts fit, and it stands for the history of some list of calls from a fresh one, loaded at some date.
 pub record StateValid (s : Bytes) (live : List ℕ) (q : State) : Type 0 where
   pub sound : StateSound s live q
-  pub recorded : Recorded (automaton s) (view q)
+  pub recorded : Recorded s (view q)
 
--- A box: its parts fit, and it stands for the history of some list of calls from a fresh one. Every load and call promises this of the box that it gives, and a call asks for nothing else.
+-- A box: its parts fit, and it stands for the history of some list of calls from a fresh one, loaded at some date. Every load and call promises this of the box that it gives, and a call asks for nothing else.
 pub record Valid (b : Monitor) : Type 0 where
   pub sound : Sound b
-  pub recorded : Recorded (automatonOf b) (viewOf b)
+  pub recorded : Recorded (bytesOf b) (viewOf b)

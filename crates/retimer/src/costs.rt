@@ -11,7 +11,7 @@ ghost use Prim.Native.Nat.{_+_, _≤_, _<_, min};
 ghost use lib.ListN.{length, drop};
 ghost use Rattle.enforcement.specs.Limits.{maxCount};
 ghost use Rattle.enforcement.specs.Automaton.{accepting, locations, transitionAt};
-ghost use Rattle.enforcement.specs.Loading.{Loads, Fits};
+ghost use Rattle.enforcement.specs.Loading.{WellFormed, Fits};
 ghost use Rattle.enforcement.specs.Model.{top};
 ghost use Rattle.retimer.specs.Readings.{located, Standing};
 ghost use Rattle.retimer.specs.Costs.{never, costAt, configuration, justReset, placeOf, Ground, Costed, AfterAsked};
@@ -86,7 +86,7 @@ pub fn better(v: u16, w: u16) -> u16
 
 // The cost where all is played.
 pub fn ending(s: &[u8], l: u8) -> u16
-    requires { ⌜ (Loads (now s)) × (l < maxCount) ⌝ }
+    requires { ⌜ (WellFormed (now s)) × (l < maxCount) ⌝ }
     ensures { λ v. ⌜ v ≡ cond (accepting (now (s .entry)) l) 0 never ⌝ }
 {
     if liveness::accepts(s, bytes::wide(l)) {
@@ -98,7 +98,7 @@ pub fn ending(s: &[u8], l: u8) -> u16
 
 // The last action leads to a location at a position that is before the least so far.
 fn finish(s: &[u8], t: usize, u: u8, front: Front) -> Front
-    requires { ⌜ (Loads (now s)) × (t < maxCount) ⌝ }
+    requires { ⌜ (WellFormed (now s)) × (t < maxCount) ⌝ }
     ensures { λ f. ⌜ (f .places ≡ front .places) × (f .best ≡ cond (accepting (now (s .entry)) t) u (front .best)) ⌝ }
 {
     if liveness::accepts(s, t) {

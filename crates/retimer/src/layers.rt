@@ -12,7 +12,7 @@ ghost use Prim.Native.Nat.{ℕ, _+_, _*_, _≤_, _<_, min};
 ghost use lib.ListN.{length, getD, drop, set};
 ghost use Rattle.enforcement.specs.Limits.{maxCount};
 ghost use Rattle.enforcement.specs.Automaton.{locations, clocks, transitionAt};
-ghost use Rattle.enforcement.specs.Loading.{Loads, Fits};
+ghost use Rattle.enforcement.specs.Loading.{WellFormed, Fits};
 ghost use Rattle.enforcement.specs.Model.{top, width};
 ghost use Rattle.retimer.specs.Costs.{never, Ground};
 ghost use Rattle.retimer.specs.Locations.{InSheet};
@@ -375,7 +375,7 @@ fn lay_all(
 
 // The costs of a location where all is played, in its table.
 fn end_one(s: &[u8], l: usize, low: &mut [u16], high: &mut [u16])
-    requires { ⌜ ((Loads (now s)) × (l < locations (now s))) × ((Ready 0 (now low)) × (Ready 0 (now high))) ⌝ }
+    requires { ⌜ ((WellFormed (now s)) × (l < locations (now s))) × ((Ready 0 (now low)) × (Ready 0 (now high))) ⌝ }
     ensures { λ _. ⌜ OneLaid (now (s .entry)) [] l (now (low .entry)) (now (high .entry)) (now (low .exit)) (now (high .exit)) ⌝ }
 {
     let c = costs::ending(s, l as u8);
@@ -388,7 +388,7 @@ fn end_one(s: &[u8], l: usize, low: &mut [u16], high: &mut [u16])
 
 // The costs of all locations where all is played.
 fn end_all(s: &[u8], low: &mut [u16], high: &mut [u16])
-    requires { ⌜ (Loads (now s)) × ((Ready 0 (now low)) × (Ready 0 (now high))) ⌝ }
+    requires { ⌜ (WellFormed (now s)) × ((Ready 0 (now low)) × (Ready 0 (now high))) ⌝ }
     ensures { λ _. ⌜ Ended (now (s .entry)) (now (low .exit)) (now (high .exit)) ⌝ }
 {
     let mut l = 0;

@@ -15,7 +15,7 @@ ghost use lib.ListN.{length};
 ghost use Rattle.enforcement.specs.Limits.{maxCount};
 ghost use Rattle.enforcement.specs.Automaton.{automaton, byte, bit, accepting, locations, offset, size, transitionAt};
 ghost use Rattle.enforcement.specs.Model.{top, compile};
-ghost use Rattle.enforcement.specs.Loading.{Loads};
+ghost use Rattle.enforcement.specs.Loading.{WellFormed};
 ghost use Rattle.retimer.specs.Readings.{Standing, located};
 ghost use Rattle.retimer.specs.Leading.{allRows, leads};
 ghost use Rattle.retimer.specs.Live.{LiveTable, LiveSet, leastOf, least, Sound, Place, FromSaturated, Ticked, Turn, Turns, Improved, Unsettled, Swept};
@@ -33,7 +33,7 @@ pub struct Liveness {
 
 // Whether a location is accepting.
 pub fn accepts(s: &[u8], l: usize) -> bool
-    requires { ⌜ (Loads (now s)) × (l < maxCount) ⌝ }
+    requires { ⌜ (WellFormed (now s)) × (l < maxCount) ⌝ }
     ensures { λ b. ⌜ b ≡ accepting (now (s .entry)) l ⌝ }
 {
     locations::has(bytes::word_at(s, 4) as u16, l)
@@ -41,7 +41,7 @@ pub fn accepts(s: &[u8], l: usize) -> bool
 
 // Looks at the transition at a place if its target is one of those that have gained; answers whether the location has gained a configuration.
 fn turn(s: &[u8], set: &mut [u64], l: usize, p: usize, gained: u16, from: usize) -> bool
-    requires { ⌜ (Loads (now s)) × ((Sound (now s) (now set)) × ((l < locations (now s)) × ((Place (now s) l p) × (from ≡ least (now s))))) ⌝ }
+    requires { ⌜ (WellFormed (now s)) × ((Sound (now s) (now set)) × ((l < locations (now s)) × ((Place (now s) l p) × (from ≡ least (now s))))) ⌝ }
     ensures { λ b. ⌜ Turn (now (s .entry)) (now (set .entry)) (now (set .exit)) l gained p b ⌝ }
 {
     if locations::has(gained, bytes::wide(s[p + 1])) {
@@ -52,7 +52,7 @@ fn turn(s: &[u8], set: &mut [u64], l: usize, p: usize, gained: u16, from: usize)
 
 // Looks at the transitions of a location whose targets have gained.
 fn turns(s: &[u8], set: &mut [u64], l: usize, gained: u16, from: usize) -> bool
-    requires { ⌜ (Loads (now s)) × ((Sound (now s) (now set)) × ((l < locations (now s)) × (from ≡ least (now s)))) ⌝ }
+    requires { ⌜ (WellFormed (now s)) × ((Sound (now s) (now set)) × ((l < locations (now s)) × (from ≡ least (now s)))) ⌝ }
     ensures { λ b. ⌜ Turns (now (s .entry)) (now (set .entry)) (now (set .exit)) l gained (offset (now (s .entry)) l + size (now (s .entry)) l) b ⌝ }
 {
     let mut p = bytes::word_at(s, 6 + 4 * l);
@@ -70,7 +70,7 @@ fn turns(s: &[u8], set: &mut [u64], l: usize, gained: u16, from: usize) -> bool
 
 // Whether the transition at a place leads from saturated readings into the set, if its target is one of those that have gained.
 fn from_saturated(s: &[u8], set: &[u64], l: usize, p: usize, gained: u16) -> bool
-    requires { ⌜ (Loads (now s)) × ((length (now set) ≡ allRows) × ((l < locations (now s)) × (Place (now s) l p))) ⌝ }
+    requires { ⌜ (WellFormed (now s)) × ((length (now set) ≡ allRows) × ((l < locations (now s)) × (Place (now s) l p))) ⌝ }
     ensures { λ b. ⌜ b ≡ bit gained (byte (now (s .entry)) (p + 1)) && leads (now (set .entry)) (transitionAt (now (s .entry)) p) top top ⌝ }
 {
     if locations::has(gained, bytes::wide(s[p + 1])) {
@@ -81,7 +81,7 @@ fn from_saturated(s: &[u8], set: &[u64], l: usize, p: usize, gained: u16) -> boo
 
 // Whether one of a location's transitions does. Every wait ends with saturated readings, so every configuration of the location is live then.
 fn some_from_saturated(s: &[u8], set: &[u64], l: usize, gained: u16) -> bool
-    requires { ⌜ (Loads (now s)) × ((length (now set) ≡ allRows) × (l < locations (now s))) ⌝ }
+    requires { ⌜ (WellFormed (now s)) × ((length (now set) ≡ allRows) × (l < locations (now s))) ⌝ }
     ensures { λ b. ⌜ FromSaturated (now (s .entry)) (now (set .entry)) l gained (offset (now (s .entry)) l + size (now (s .entry)) l) b ⌝ }
 {
     let mut p = bytes::word_at(s, 6 + 4 * l);
@@ -98,7 +98,7 @@ fn some_from_saturated(s: &[u8], set: &[u64], l: usize, gained: u16) -> bool
 
 // Looks at the transitions of a location whose targets have gained, and at waits, unless it has every configuration; answers whether it has gained one.
 fn improve(s: &[u8], set: &mut [u64], l: usize, gained: u16, from: usize) -> bool
-    requires { ⌜ (Loads (now s)) × ((Sound (now s) (now set)) × ((l < locations (now s)) × ((from ≡ least (now s)) × (Ticked (now s) (now set) l)))) ⌝ }
+    requires { ⌜ (WellFormed (now s)) × ((Sound (now s) (now set)) × ((l < locations (now s)) × ((from ≡ least (now s)) × (Ticked (now s) (now set) l)))) ⌝ }
     ensures { λ b. ⌜ Improved (now (s .entry)) (now (set .entry)) (now (set .exit)) l gained b ⌝ }
 {
     if whole::has_saturated(set, l) {
@@ -117,7 +117,7 @@ fn improve(s: &[u8], set: &mut [u64], l: usize, gained: u16, from: usize) -> boo
 
 // Improves every location, the last one first; answers the set of those that have gained. What gains counts for those after it in the same sweep.
 fn sweep(s: &[u8], set: &mut [u64], gained: u16, from: usize) -> u16
-    requires { ⌜ (Loads (now s)) × ((Unsettled (now s) (now set) gained) × (from ≡ least (now s))) ⌝ }
+    requires { ⌜ (WellFormed (now s)) × ((Unsettled (now s) (now set) gained) × (from ≡ least (now s))) ⌝ }
     ensures { λ v. ⌜ Swept (now (s .entry)) (now (set .entry)) (now (set .exit)) v ⌝ }
 {
     let mut next = 0;
@@ -140,7 +140,7 @@ fn least(one: bool) -> usize
 
 // Sweeps over the transitions to locations that have gained, until none has.
 fn live_set(s: &[u8]) -> Live
-    requires { ⌜ Loads (now s) ⌝ }
+    requires { ⌜ WellFormed (now s) ⌝ }
     ensures { λ v. ⌜ LiveSet (now (s .entry)) (v .set) ⌝ }
 {
     let from = least(s[1] == 1);
@@ -155,7 +155,7 @@ fn live_set(s: &[u8]) -> Live
 
 // The table of live configurations.
 pub fn live_table(s: &[u8]) -> Liveness
-    requires { ⌜ Loads (now s) ⌝ }
+    requires { ⌜ WellFormed (now s) ⌝ }
     ensures { λ v. ⌜ LiveTable (now (s .entry)) (v .counts) ⌝ }
 {
     let live = live_set(s);
@@ -168,7 +168,7 @@ pub fn live_table(s: &[u8]) -> Liveness
 // Whether an accepting location can still be reached.
 pub fn is_live(s: &[u8], live: &[u8], l: u8, r: [u8; 2]) -> bool
     requires { ⌜ (LiveTable (now s) (now live)) × (Standing (now s) l r) ⌝ }
-    ensures { λ b. ⌜ b ≡ compile (automaton (now (s .entry))) .live (located l r) ⌝ }
+    ensures { λ b. ⌜ b ≡ compile (now (s .entry)) .live (located l r) ⌝ }
 {
     diagonals::has(live, l, r[0], r[1])
 }

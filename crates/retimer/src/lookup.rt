@@ -5,7 +5,7 @@ ghost use mathlib.Core.Path.{_≡_};
 ghost use Prim.Native.Nat.{_+_, _≤_};
 ghost use lib.ListN.{length};
 ghost use Rattle.enforcement.specs.Automaton.{transitionAt, enabled};
-ghost use Rattle.enforcement.specs.Loading.{Loads};
+ghost use Rattle.enforcement.specs.Loading.{WellFormed};
 ghost use Rattle.retimer.specs.Readings.{Standing};
 ghost use Rattle.retimer.specs.Steps.{applies, Placed, StepRight};
 
@@ -40,7 +40,7 @@ fn applies(s: &[u8], p: usize, c: u8, x: u8, y: u8) -> bool
 
 // The place of the first transition of the location that is for the action and enabled, or 0.
 fn find(s: &[u8], c: u8, l: u8, r: [u8; 2]) -> usize
-    requires { ⌜ (Loads (now s)) × (Standing (now s) l r) ⌝ }
+    requires { ⌜ (WellFormed (now s)) × (Standing (now s) l r) ⌝ }
     ensures { λ p. ⌜ Placed (now (s .entry)) c l r p ⌝ }
 {
     let pair = 6 + 4 * bytes::wide(l);
@@ -59,7 +59,7 @@ fn find(s: &[u8], c: u8, l: u8, r: [u8; 2]) -> usize
 
 // Takes the transition of the action that is enabled, if there is one.
 pub fn step(s: &[u8], c: u8, l: u8, r: [u8; 2]) -> Stepped
-    requires { ⌜ (Loads (now s)) × (Standing (now s) l r) ⌝ }
+    requires { ⌜ (WellFormed (now s)) × (Standing (now s) l r) ⌝ }
     ensures { λ v. ⌜ StepRight (now (s .entry)) c l r v ⌝ }
 {
     let p = find(s, c, l, r);

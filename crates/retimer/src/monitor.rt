@@ -27,10 +27,10 @@ pub struct Loaded {
 }
 
 impl Monitor {
-    // A fresh box of a sheet that the check accepts.
-    fn fresh(s: &[u8]) -> Monitor
-        requires { ⌜ Loads (now s) ⌝ }
-        ensures { λ r. ⌜ FreshRight (now (s .entry)) r ⌝ }
+    // A fresh box of a sheet that the check accepts at that date: its clocks read 0 there.
+    fn fresh(s: &[u8], loaded: u32) -> Monitor
+        requires { ⌜ Loads (now s) loaded ⌝ }
+        ensures { λ r. ⌜ FreshRight (now (s .entry)) loaded r ⌝ }
     {
         let live = liveness::live_table(s);
         let counts = live.counts;
@@ -42,7 +42,7 @@ impl Monitor {
             bytes,
             size: s.len(),
             live: counts,
-            state: State::initial(location, [0, second], lit),
+            state: State::initial(loaded, location, [0, second], lit),
         }
     }
 
@@ -54,18 +54,18 @@ impl Monitor {
             bytes: [0u8; Monitor::SIZE],
             size: 0,
             live: [0u8; Monitor::COUNTS],
-            state: State::initial(0, [0, 0], false),
+            state: State::initial(0, 0, [0, 0], false),
         }
     }
 
-    // Any bytes: the check's answer, and a fresh box where it accepts them; else no box.
-    pub fn load(s: &[u8]) -> Loaded
-        ensures { λ r. ⌜ LoadRight (now (s .entry)) r ⌝ }
+    // Any bytes and any date: the check's answer, and a fresh box where it accepts them; else no box.
+    pub fn load(s: &[u8], loaded: u32) -> Loaded
+        ensures { λ r. ⌜ LoadRight (now (s .entry)) loaded r ⌝ }
     {
-        let checked = sheet::check(s);
+        let checked = sheet::check(s, loaded);
         match checked {
             Checked::Accepted(_) => Loaded {
-                monitor: Monitor::fresh(s),
+                monitor: Monitor::fresh(s, loaded),
                 checked,
             },
             Checked::Refused(_) => Loaded {

@@ -10,7 +10,7 @@ ghost use mathlib.Core.Logic.{_↔_};
 ghost use Prim.Native.Nat.{_+_, _≤_};
 ghost use lib.ListN.{length};
 ghost use Rattle.enforcement.specs.Automaton.{byte, accepting, actions, transitionAt};
-ghost use Rattle.enforcement.specs.Loading.{Loads, Fits};
+ghost use Rattle.enforcement.specs.Loading.{WellFormed, Fits};
 ghost use Rattle.enforcement.specs.Model.{prospect};
 ghost use Rattle.enforcement.specs.Monitor.{noneNext, isLit};
 ghost use Rattle.retimer.specs.Readings.{Readings, located};
@@ -57,7 +57,7 @@ fn leads_live(s: &[u8], live: &[u8], p: usize, r: [u8; 2]) -> bool
 
 // Whether the transition at p leads to an accepting location.
 fn target_accepts(s: &[u8], p: usize) -> bool
-    requires { ⌜ (Loads (now s)) × ((p + 7 ≤ length (now s)) × (Fits (now s) (transitionAt (now s) p))) ⌝ }
+    requires { ⌜ (WellFormed (now s)) × ((p + 7 ≤ length (now s)) × (Fits (now s) (transitionAt (now s) p))) ⌝ }
     ensures { λ b. ⌜ b ≡ accepting (now (s .entry)) (byte (now (s .entry)) (p + 1)) ⌝ }
 {
     liveness::accepts(s, bytes::wide(s[p + 1]))

@@ -11,7 +11,7 @@ ghost use Rattle.retimer.specs.View.{StateValid};
 ghost use Rattle.retimer.specs.Calls.{MoveRight};
 ghost use Rattle.retimer.specs.Replay.{callAt, ReplayRight};
 
-// The check's answer, the last box, and the last answer; "none" where there was no call. After a refused sheet there is no box.
+// The check's answer, the last box, and the last answer; "none" where there was no call. After a refused load there is no box.
 pub struct Replayed {
     pub checked: Checked,
     pub monitor: Monitor,
@@ -31,13 +31,13 @@ pub fn call_at<'a>(sheet: &'a [u8], live: &'a [u8], state: State, calls: &[u8], 
     state.offer(sheet, live, c, t)
 }
 
-// The calls of a list of bytes, from a fresh box of a sheet.
-pub fn replay(s: &[u8], calls: &[u8]) -> Replayed
-    ensures { λ r. ⌜ ReplayRight (now (s .entry)) (now (calls .entry)) r ⌝ }
+// The calls of a list of bytes, from a fresh box of a sheet that is loaded at a date.
+pub fn replay(s: &[u8], loaded: u32, calls: &[u8]) -> Replayed
+    ensures { λ r. ⌜ ReplayRight (now (s .entry)) loaded (now (calls .entry)) r ⌝ }
 {
-    let loaded = Monitor::load(s);
-    let checked = loaded.checked;
-    let b = loaded.monitor;
+    let start = Monitor::load(s, loaded);
+    let checked = start.checked;
+    let b = start.monitor;
     let mut answer = Answer::Nothing;
     match checked {
         Checked::Accepted(_) => {}

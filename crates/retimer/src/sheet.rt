@@ -1,4 +1,4 @@
-// The check of a sheet at loading: one test for each reason, in order.
+// The check of a sheet and its loading date: one test for each reason, in order.
 use crate::bytes;
 use crate::limits::Monitor;
 use crate::reason::Reason;
@@ -7,6 +7,7 @@ ghost use mathlib.Core.Bool.{_&&_};
 ghost use Prim.Native.Nat.{_+_, _*_, _≤_};
 ghost use lib.Dec.{leb};
 ghost use lib.ListN.{length};
+ghost use Rattle.enforcement.specs.Limits.{maxDate};
 ghost use Rattle.enforcement.specs.Automaton.{transitionAt, transitionsFrom, allTransitions, locations};
 ghost use Rattle.enforcement.specs.Loading.{sizePasses, headerPasses, initialPasses, pairsPass, layoutPasses, boundsPass, oneClockPasses, fits, allFit, overlap, overlapsNone, disjoint, disjointOver, check, countsOf};
 ghost use Rattle.retimer.specs.Checked.{Headed, LaidOut, namesPass, guardsPass, clocksPass, figuresOf, checkedOf};
@@ -20,7 +21,7 @@ pub struct Counts {
     pub accepting: u32,
 }
 
-// The answer of the check: the figures, or why the sheet is refused.
+// The answer of the check: the figures, or why the sheet or its loading date is refused.
 pub enum Checked {
     Accepted(Counts),
     Refused(Reason),
@@ -310,9 +311,16 @@ fn figures(s: &[u8]) -> Counts
     }
 }
 
-// The counts, or the first reason to refuse.
-pub fn check(s: &[u8]) -> Checked
-    ensures { λ v. ⌜ checkedOf v ≡ check (now (s .entry)) ⌝ }
+// I-8: the loading date.
+fn date_passes(loaded: u32) -> bool
+    ensures { λ b. ⌜ b ≡ leb loaded maxDate ⌝ }
+{
+    loaded <= Monitor::LATEST
+}
+
+// The counts, or the first reason to refuse the sheet at that date.
+pub fn check(s: &[u8], loaded: u32) -> Checked
+    ensures { λ v. ⌜ checkedOf v ≡ check (now (s .entry)) loaded ⌝ }
 {
     if !size_passes(s) {
         return Checked::Refused(Reason::I1);
@@ -331,6 +339,9 @@ pub fn check(s: &[u8]) -> Checked
     }
     if !disjoint_over(s) {
         return Checked::Refused(Reason::I6);
+    }
+    if !date_passes(loaded) {
+        return Checked::Refused(Reason::I8);
     }
     Checked::Accepted(figures(s))
 }

@@ -64,12 +64,12 @@ fn next_request(numbered: u32, action: u8, offered: u32) -> Request
 }
 
 impl State {
-    // Date 0, with nothing pending, scheduled or numbered.
-    pub fn initial(location: u8, readings: [u8; 2], lit: bool) -> State
-        ensures { λ r. ⌜ r ≡ initialState location readings lit ⌝ }
+    // At a date, which counts as the last scheduled one, with nothing pending, scheduled or numbered.
+    pub fn initial(date: u32, location: u8, readings: [u8; 2], lit: bool) -> State
+        ensures { λ r. ⌜ r ≡ initialState date location readings lit ⌝ }
     {
         State {
-            date: 0,
+            date,
             pending: [Request {
                 action: 0,
                 number: 0,
@@ -87,7 +87,7 @@ impl State {
             planned: 0,
             location,
             readings,
-            last: 0,
+            last: date,
             numbered: 0,
             lit,
         }

@@ -3,13 +3,13 @@ use crate::bytes;
 use crate::locations;
 ghost use Prim.Native.Nat.{_<_};
 ghost use Rattle.enforcement.specs.Automaton.{locations};
-ghost use Rattle.enforcement.specs.Loading.{Loads};
+ghost use Rattle.enforcement.specs.Loading.{WellFormed};
 ghost use Rattle.retimer.specs.Locations.{InSheet};
 ghost use Rattle.retimer.specs.Targets.{EntersFrom, EntersFromAny, Gathered};
 
 // The targets of the transitions of location l for an action.
 pub fn of(s: &[u8], c: u8, l: usize) -> u16
-    requires { ⌜ (Loads (now s)) × (l < locations (now s)) ⌝ }
+    requires { ⌜ (WellFormed (now s)) × (l < locations (now s)) ⌝ }
     ensures { λ v. ⌜ Gathered (now (s .entry)) (EntersFrom (now (s .entry)) c l) v ⌝ }
 {
     let pair = 6 + 4 * l;
@@ -27,7 +27,7 @@ pub fn of(s: &[u8], c: u8, l: usize) -> u16
 
 // Those of the transitions of all locations of a set.
 pub fn of_all(s: &[u8], c: u8, places: u16) -> u16
-    requires { ⌜ (Loads (now s)) × (InSheet (now s) places) ⌝ }
+    requires { ⌜ (WellFormed (now s)) × (InSheet (now s) places) ⌝ }
     ensures { λ v. ⌜ Gathered (now (s .entry)) (EntersFromAny (now (s .entry)) c places) v ⌝ }
 {
     let count = bytes::wide(s[0]);

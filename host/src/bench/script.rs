@@ -34,7 +34,7 @@ impl Script {
         Script {
             start: input.len(),
             input,
-            monitor: Monitor::new(automaton),
+            monitor: Monitor::new(automaton, 0),
         }
     }
 

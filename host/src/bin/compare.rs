@@ -1,26 +1,36 @@
 //! Compares a desk program with the reference over random inputs, and over some
-//! that use up the numbers.
+//! that use up the numbers; or one that reads a loading date, over random inputs.
 
-use host::compare::{compare, Stop};
+use host::compare::{compare, Stop, Summary};
 use host::generate::{kind_named, Kind, KINDS, ONCE};
+use host::loading::{missing, Loading};
 use host::seeds::Seeds;
 use std::ffi::OsString;
 use std::path::Path;
 use std::process::ExitCode;
 
-const USAGE: &str = "usage: compare PROGRAM SEEDS [FIRST_SEED [KIND]..]";
+const USAGE: &str = "usage: compare [--at] PROGRAM SEEDS [FIRST_SEED [KIND]..]";
+
+/// Seeds of every kind among which nothing that loading dates show may be missing.
+const ENOUGH: u64 = 100;
+
+/// What to compare.
+struct Task<'a> {
+    loading: Loading,
+    program: &'a Path,
+    seeds: Seeds<&'static Kind>,
+}
 
 fn main() -> ExitCode {
     let arguments: Vec<OsString> = std::env::args_os().skip(1).collect();
-    let Some((program, task)) = parse(&arguments) else {
-        eprintln!("{USAGE}\nthe kinds are those of `generate --list`");
+    let Some(task) = parse(&arguments) else {
+        eprintln!("{USAGE}\nthe kinds are those of `generate --list`, with --at the random ones");
         return ExitCode::from(2);
     };
-    match compare(program, task.kinds, task.first, task.count) {
-        Ok(summary) => {
-            print!("{summary}");
-            ExitCode::SUCCESS
-        }
+    let (program, seeds) = (task.program, &task.seeds);
+    let kinds = seeds.kinds.iter().copied();
+    match compare(program, task.loading, kinds, seeds.first, seeds.count) {
+        Ok(summary) => tell(&task, &summary),
         Err(Stop::Difference(difference)) => {
             println!("{difference}");
             ExitCode::FAILURE
@@ -37,13 +47,35 @@ fn main() -> ExitCode {
     }
 }
 
-/// The program and what to go over, or nothing if the arguments are wrong.
-fn parse(arguments: &[OsString]) -> Option<(&Path, Seeds<&'static Kind>)> {
-    let (program, words) = arguments.split_first()?;
-    let mut task = Seeds::parse(words, kind_named)?;
-    if task.kinds.is_empty() {
-        task.kinds.extend(KINDS);
-        task.kinds.extend(ONCE);
+/// What to go over, or nothing if the arguments are wrong.
+fn parse(arguments: &[OsString]) -> Option<Task<'_>> {
+    let (loading, words) = Loading::parse(arguments);
+    let (program, words) = words.split_first()?;
+    let begins = |kind: &&'static Kind| kind.begins(loading);
+    let mut seeds = Seeds::parse(words, |name| kind_named(name).filter(begins))?;
+    if seeds.kinds.is_empty() {
+        let all = KINDS.iter().chain(ONCE);
+        seeds.kinds.extend(all.filter(begins));
     }
-    Some((Path::new(program), task))
+    let program = Path::new(program);
+    Some(Task {
+        loading,
+        program,
+        seeds,
+    })
+}
+
+/// Prints the summary. Enough inputs with a loading date show all that they can.
+fn tell(task: &Task, summary: &Summary) -> ExitCode {
+    print!("{summary}");
+    let seeds = &task.seeds;
+    let named = |kind: &Kind| seeds.kinds.iter().any(|named| named.name == kind.name);
+    let enough = seeds.count >= ENOUGH && KINDS.iter().all(named);
+    let missing = missing(&summary.random.tally);
+    if task.loading == Loading::AtZero || !enough || missing.is_empty() {
+        return ExitCode::SUCCESS;
+    }
+    let missing = missing.join("; ");
+    println!("the inputs have lost their point; missing: {missing}");
+    ExitCode::FAILURE
 }

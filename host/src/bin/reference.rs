@@ -1,4 +1,5 @@
-//! Reads the desk program's input and prints what the desk program prints.
+//! Reads the desk program's input and prints what the desk program prints. With
+//! `--at` the input begins with a loading date.
 
 use host::desk::main_with;
 use host::monitor::Monitor;

@@ -47,7 +47,8 @@ pub struct Monitor {
     next: u32,
     schedule: [ScheduledAction; MAX_SCHEDULED],
     planned: usize,
-    /// Where the last action ever scheduled led, and its date.
+    /// Where the last action ever scheduled led, and its date. At first the
+    /// initial location and the loading date.
     reached: Configuration,
     last: u32,
     lit: bool,
@@ -186,7 +187,7 @@ impl Monitor {
 }
 
 impl Calls for Monitor {
-    fn fresh(automaton: Automaton) -> Self {
+    fn fresh(automaton: Automaton, loaded: u32) -> Self {
         let sheet = Sheet::new(&automaton);
         let second = if sheet.clocks == 1 { CAP } else { 0 };
         let deadlines = Deadlines::new(&sheet);
@@ -197,7 +198,7 @@ impl Calls for Monitor {
         Monitor {
             lit: !any_next(&sheet, &deadlines, reached),
             deadlines,
-            date: 0,
+            date: loaded,
             pending: [0; MAX_PENDING],
             tickets: [Ticket::NONE; BATCH],
             held: 0,
@@ -205,7 +206,7 @@ impl Calls for Monitor {
             schedule: [FREE; MAX_SCHEDULED],
             planned: 0,
             reached,
-            last: 0,
+            last: loaded,
             sheet,
         }
     }

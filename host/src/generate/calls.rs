@@ -102,7 +102,7 @@ impl Script {
         let automaton = sheet::read(bytes).expect("the sheet loads");
         Script {
             input: with_length(bytes),
-            monitor: Monitor::new(automaton),
+            monitor: Monitor::new(automaton, 0),
         }
     }
 

@@ -1,14 +1,17 @@
 //! The desk program's input of a question, and back.
 
 use super::{Call, Question};
-use crate::desk::{CALL, COLLECTION};
+use crate::desk::{date_of, CALL, COLLECTION};
 use crate::generate::Draft;
+use crate::loading::Loading;
 use crate::sheet::{HEADER, PAIR, RULE};
 
 /// The bytes of a question.
 pub fn write(question: &Question) -> Vec<u8> {
     let sheet = question.sheet.bytes();
-    let mut input = (sheet.len() as u16).to_le_bytes().to_vec();
+    let date = question.loaded.map(u32::to_le_bytes);
+    let mut input: Vec<u8> = date.into_iter().flatten().collect();
+    input.extend((sheet.len() as u16).to_le_bytes());
     input.extend(sheet);
     for call in &question.calls {
         let (first, date) = match *call {
@@ -23,12 +26,16 @@ pub fn write(question: &Question) -> Vec<u8> {
 }
 
 /// The question of an input, or what is wrong with its layout.
-pub fn read(input: &[u8]) -> Result<Question, String> {
-    let (sheet, rest) = split(input)?;
+pub fn read(loading: Loading, input: &[u8]) -> Result<Question, String> {
+    let Some((date, rest)) = loading.split(input) else {
+        return Err("the input has not the four bytes of the loading date".into());
+    };
+    let (sheet, rest) = split(rest)?;
     let calls = rest.chunks_exact(CALL);
     let tail = calls.remainder().to_vec();
     Ok(Question {
         sheet: read_sheet(sheet)?,
+        loaded: (loading == Loading::AtDate).then_some(date),
         calls: calls.map(read_call).collect(),
         tail,
     })
@@ -37,7 +44,7 @@ pub fn read(input: &[u8]) -> Result<Question, String> {
 /// Splits an input into sheet and calls.
 fn split(input: &[u8]) -> Result<(&[u8], &[u8]), String> {
     let Some((length, rest)) = input.split_at_checked(2) else {
-        return Err("the input is shorter than the two bytes of the sheet's length".into());
+        return Err("the input has not the two bytes of the sheet's length".into());
     };
     let length = two_bytes(length, 0);
     rest.split_at_checked(length).ok_or_else(|| {
@@ -47,7 +54,7 @@ fn split(input: &[u8]) -> Result<(&[u8], &[u8]), String> {
 }
 
 fn read_call(call: &[u8]) -> Call {
-    let date = u32::from_le_bytes([call[1], call[2], call[3], call[4]]);
+    let date = date_of(call);
     match call[0] {
         COLLECTION => Call::Collect { date },
         action => Call::Offer { action, date },

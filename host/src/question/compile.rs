@@ -1,6 +1,6 @@
 //! Reads a text line by line and collects its mistakes.
 
-use super::header::{Header, NAMES};
+use super::header::{repeated, Header, NAMES};
 use super::rules::Edge;
 use super::scope::{date, left_over, offered};
 use super::words::{quoted, Words};
@@ -17,12 +17,14 @@ struct Compiler {
     checks: Checks,
     header: Header,
     edges: Vec<Edge>,
+    loaded: Option<u32>,
     calls: Vec<Call>,
     tail: Vec<u8>,
     /// Rules read so far, those with mistakes included.
     rule_count: usize,
-    /// Whether a rule or a call was read, so that the header must be there.
+    /// Whether another line was read, so that the header must be there.
     header_over: bool,
+    loaded_line: Option<usize>,
     first_call: Option<usize>,
     tail_line: Option<usize>,
     mistakes: Vec<Mistake>,
@@ -47,10 +49,12 @@ impl Compiler {
             checks,
             header: Header::default(),
             edges: Vec::new(),
+            loaded: None,
             calls: Vec::new(),
             tail: Vec::new(),
             rule_count: 0,
             header_over: false,
+            loaded_line: None,
             first_call: None,
             tail_line: None,
             mistakes: Vec::new(),
@@ -64,6 +68,7 @@ impl Compiler {
         };
         let result = match first.as_str() {
             "rule" => self.rule(line, &mut words),
+            "loaded" => self.loaded(line, &mut words),
             "offer" | "collect" => self.call(line, &first, &mut words),
             "tail" => self.tail(line, &mut words),
             name if NAMES.contains(&name) => self.header.read(self.checks, line, name, &mut words),
@@ -80,9 +85,10 @@ impl Compiler {
 
     fn rule(&mut self, line: usize, words: &mut Words) -> Result<(), String> {
         self.end_header(line, "before this rule");
-        if let Some(call) = self.first_call {
+        self.before_calls("rules come")?;
+        if let Some(loaded) = self.loaded_line {
             return Err(format!(
-                "rules come before the calls; line {call} is a call"
+                "rules come before the loading date, which is line {loaded}"
             ));
         }
         self.before_tail()?;
@@ -111,6 +117,23 @@ impl Compiler {
             let count = self.rule_count;
             return Err(format!("this is rule {count}; a sheet has at most {most}"));
         }
+        Ok(())
+    }
+
+    /// The loading date, after the rules and before the calls.
+    fn loaded(&mut self, line: usize, words: &mut Words) -> Result<(), String> {
+        self.end_header(line, "before this loading date");
+        self.before_calls("the loading date comes")?;
+        self.before_tail()?;
+        if let Some(first) = self.loaded_line {
+            return Err(repeated("loaded", first));
+        }
+        self.loaded_line = Some(line);
+        words.expect("at")?;
+        let scope = self.header.scope(self.checks);
+        let date = scope.loading_date(words.number("a date")?)?;
+        words.end("")?;
+        self.loaded = Some(date);
         Ok(())
     }
 
@@ -148,6 +171,14 @@ impl Compiler {
         Ok(())
     }
 
+    /// Requires that no call was read; `what` comes earlier.
+    fn before_calls(&self, what: &str) -> Result<(), String> {
+        match self.first_call {
+            Some(call) => Err(format!("{what} before the calls; line {call} is a call")),
+            None => Ok(()),
+        }
+    }
+
     fn before_tail(&self) -> Result<(), String> {
         match self.tail_line {
             Some(tail) => Err(format!(
@@ -179,8 +210,12 @@ impl Compiler {
         for edge in self.edges {
             sheet.outgoing[usize::from(edge.source)].push(edge.rule);
         }
-        let (calls, tail) = (self.calls, self.tail);
-        Ok(Question { sheet, calls, tail })
+        Ok(Question {
+            sheet,
+            loaded: self.loaded,
+            calls: self.calls,
+            tail: self.tail,
+        })
     }
 }
 
@@ -194,5 +229,6 @@ fn read_date(words: &mut Words) -> Result<u32, String> {
 fn unknown(word: &str) -> String {
     let names = NAMES.map(quoted).join(", ");
     let word = quoted(word);
-    format!("{word} begins no line; {names}, `rule`, `offer`, `collect` or `tail` is expected")
+    let others = "`rule`, `loaded`, `offer`, `collect` or `tail`";
+    format!("{word} begins no line; {names}, {others} is expected")
 }

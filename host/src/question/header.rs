@@ -38,9 +38,7 @@ impl<T> Field<T> {
     /// Takes the value of a line; there may be one such line.
     fn put(&mut self, name: &str, line: usize, value: Result<T, String>) -> Result<(), String> {
         if let Some(first) = self.line {
-            return Err(format!(
-                "`{name}` is repeated; it is in line {first} already"
-            ));
+            return Err(repeated(name, first));
         }
         self.line = Some(line);
         self.value = Some(value?);
@@ -126,6 +124,11 @@ impl Header {
             outgoing: vec![Vec::new(); usize::from(locations)],
         })
     }
+}
+
+/// The message for a line of which there may be one.
+pub fn repeated(name: &str, first: usize) -> String {
+    format!("`{name}` is repeated; it is in line {first} already")
 }
 
 /// The one number of a line.

@@ -10,12 +10,15 @@ mod scope;
 mod words;
 
 use crate::generate::Draft;
+use crate::loading::Loading;
 use std::fmt;
 
 /// A sheet and the calls made on its box, each field as the bytes have it.
 #[derive(Clone, Debug)]
 struct Question {
     sheet: Draft,
+    /// The loading date, if the question says it.
+    loaded: Option<u32>,
     calls: Vec<Call>,
     /// The bytes left over after the last call, fewer than a call has.
     tail: Vec<u8>,
@@ -51,13 +54,29 @@ impl fmt::Display for Mistake {
 }
 
 /// Turns a text into the desk program's input, or gives all its mistakes in
-/// the order of their lines.
+/// the order of their lines. If the text has a loading date, the input begins
+/// with it.
 pub fn encode(text: &str, checks: Checks) -> Result<Vec<u8>, Vec<Mistake>> {
     compile::compile(text, checks).map(|question| bytes::write(&question))
+}
+
+/// How the input of a text begins, or all mistakes that bytes cannot express.
+pub fn loading(text: &str) -> Result<Loading, Vec<Mistake>> {
+    let question = compile::compile(text, Checks::Bytes)?;
+    Ok(match question.loaded {
+        Some(_) => Loading::AtDate,
+        None => Loading::AtZero,
+    })
 }
 
 /// Turns the desk program's input into text, or says why no text gives it.
 /// If the desk program refuses the sheet, `Checks::Bytes` leads back.
 pub fn decode(input: &[u8]) -> Result<String, String> {
-    bytes::read(input).map(|question| print::print(&question))
+    decode_as(Loading::AtZero, input)
+}
+
+/// The same for an input that begins in either way. A loading date is in the
+/// text.
+pub fn decode_as(loading: Loading, input: &[u8]) -> Result<String, String> {
+    bytes::read(loading, input).map(|question| print::print(&question))
 }

@@ -5,7 +5,8 @@ use super::{Call, Question};
 use crate::generate::Draft;
 use crate::sheet::{self, RULE};
 
-/// The text: header, rules by location, calls, each part after a blank line.
+/// The text: header, rules by location, loading date, calls, each part after a
+/// blank line.
 pub fn print(question: &Question) -> String {
     let sheet = &question.sheet;
     let rules = (0..).zip(&sheet.outgoing);
@@ -14,14 +15,17 @@ pub fn print(question: &Question) -> String {
         .map(|(source, rule)| print_rule(source, rule))
         .collect();
     let calls: String = question.calls.iter().map(print_call).collect();
-    let parts = [header(sheet), rules, calls + &tail(&question.tail)];
+    let loaded = question.loaded.map(|date| format!("loaded at {date}\n"));
+    let calls = calls + &tail(&question.tail);
+    let parts = [header(sheet), rules, loaded.unwrap_or_default(), calls];
     let parts = parts.into_iter().filter(|part| !part.is_empty());
-    remark(sheet) + &parts.collect::<Vec<_>>().join("\n")
+    remark(question) + &parts.collect::<Vec<_>>().join("\n")
 }
 
-/// A comment for a sheet that the desk program refuses.
-fn remark(sheet: &Draft) -> String {
-    match sheet::read(&sheet.bytes()) {
+/// A comment for a sheet that the desk program refuses, or for its loading date.
+fn remark(question: &Question) -> String {
+    let date = question.loaded.unwrap_or(0);
+    match sheet::load(&question.sheet.bytes(), date) {
         Ok(_) => String::new(),
         Err(refusal) => {
             format!("# Refused for {refusal} by the desk program: encode with --unchecked.\n")

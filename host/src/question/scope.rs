@@ -2,7 +2,7 @@
 
 use super::Checks;
 use crate::desk::COLLECTION;
-use crate::limits::MAX_BOUND;
+use crate::limits::{LAST_DATE, MAX_BOUND};
 use crate::sheet::{MAX_ACTIONS, MAX_CLOCKS, MAX_LOCATIONS, UNBOUNDED};
 use std::ops::Range;
 
@@ -88,6 +88,16 @@ impl Scope {
             ));
         }
         Ok([low, high])
+    }
+
+    /// The loading date, which fits 32 bits as those of calls do.
+    pub fn loading_date(&self, number: u64) -> Result<u32, String> {
+        let loaded = date(number)?;
+        if self.checks == Checks::All && loaded > LAST_DATE {
+            let range = expected(&(0..u64::from(LAST_DATE) + 1));
+            return Err(format!("loading date {loaded} is out of range; {range}"));
+        }
+        Ok(loaded)
     }
 
     fn clocks(&self) -> Range<u64> {

@@ -7,13 +7,21 @@ use host::monitor::{Answer, Monitor, ScheduledAction};
 use host::refusal::Refusal;
 use host::runs::TimedAction;
 use host::sheet::{self, Automaton};
+use std::io::Write;
+use std::process::{Command, Output, Stdio};
 
 /// The first byte of a collection.
 pub const COLLECT: u8 = 255;
 
-/// A fresh box.
+/// A fresh box, loaded at date 0.
 pub fn fresh(bytes: &[u8]) -> Monitor {
-    Monitor::new(sheet::read(bytes).expect("the sheet loads"))
+    loaded(bytes, 0)
+}
+
+/// A fresh box, loaded at a date.
+pub fn loaded(bytes: &[u8], date: u32) -> Monitor {
+    let automaton = sheet::load(bytes, date).expect("the sheet loads");
+    Monitor::new(automaton, date)
 }
 
 /// The answer that schedules so many actions.
@@ -91,10 +99,28 @@ pub fn input(bytes: &[u8], calls: &[(u8, u32)]) -> Vec<u8> {
     input
 }
 
+/// The same for a box loaded at a date.
+pub fn input_at(date: u32, bytes: &[u8], calls: &[(u8, u32)]) -> Vec<u8> {
+    [&date.to_le_bytes()[..], &input(bytes, calls)].concat()
+}
+
 /// The lines for a sheet and calls.
 pub fn lines(bytes: &[u8], calls: &[(u8, u32)]) -> Vec<String> {
     let output = desk::run(&input(bytes, calls));
     output.lines().map(String::from).collect()
+}
+
+/// Runs a program on an input and gives what it prints.
+pub fn call_with(program: &str, arguments: &[&str], input: &[u8]) -> Output {
+    let mut command = Command::new(program);
+    command.args(arguments).stdin(Stdio::piped());
+    command.stdout(Stdio::piped()).stderr(Stdio::piped());
+    let mut child = command.spawn().expect("the program runs");
+    let mut stdin = child.stdin.take().expect("its input is open");
+    // It may end without reading all of its input.
+    let _ = stdin.write_all(input);
+    drop(stdin);
+    child.wait_with_output().expect("the program ends")
 }
 
 /// A sheet from its counts, its accepting set and the rules of each location.

@@ -19,6 +19,8 @@ pub struct Book {
     sheet: Vec<u8>,
     /// How many ticks per command a dating may wait at most.
     wait: u32,
+    /// The loading date.
+    loaded: u32,
     date: u32,
     /// Each command with its date.
     pub scheduled: Vec<(u8, u32)>,
@@ -31,11 +33,12 @@ pub struct Book {
 }
 
 impl Book {
-    pub fn new(sheet: Vec<u8>, wait: u32) -> Self {
+    pub fn new(sheet: Vec<u8>, loaded: u32, wait: u32) -> Self {
         Book {
             sheet,
             wait,
-            date: 0,
+            loaded,
+            date: loaded,
             scheduled: Vec::new(),
             held: Vec::new(),
             offers: Vec::new(),
@@ -96,8 +99,8 @@ impl Book {
     fn stand(&self) -> Stand {
         let mut stand = Stand {
             location: self.sheet[3],
-            zero: [0, 0],
-            date: 0,
+            zero: [self.loaded; 2],
+            date: self.loaded,
         };
         for (command, date) in &self.scheduled {
             let next = self.step(stand, *command, *date);

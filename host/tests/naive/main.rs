@@ -21,7 +21,8 @@ struct Trial {
     wait: u32,
     /// Largest step of the dates.
     step: u32,
-    /// Date of a first collection.
+    loaded: u32,
+    /// Date of a first collection, once the loading date has passed.
     start: u32,
 }
 
@@ -66,9 +67,12 @@ fn run(trial: &Trial, salt: u64) -> Seen {
         let profile = profile(random, bounds);
         let bytes = draw(random, &profile).bytes();
         let automaton = sheet::read(&bytes).expect("drawn sheets load");
-        let mut monitor = Monitor::new(automaton);
-        let mut book = Book::new(bytes, trial.wait);
-        assert_eq!(monitor.collect(trial.start), book.collect(trial.start));
+        let mut monitor = Monitor::new(automaton, trial.loaded);
+        let mut book = Book::new(bytes, trial.loaded, trial.wait);
+        assert_eq!(monitor.lamp(), book.lit());
+        for date in [trial.loaded.saturating_sub(1), trial.start] {
+            assert_eq!(monitor.collect(date), book.collect(date));
+        }
         for _ in 0..trial.calls {
             if !call(trial, random, &mut monitor, &mut book, &mut seen) {
                 break;
@@ -165,6 +169,7 @@ fn small_bounds_lists_of_four() {
         bounds: &[Bounds { low: 0, high: 2 }, Bounds { low: 1, high: 4 }],
         wait: 6,
         step: 3,
+        loaded: 0,
         start: 0,
     };
     require(&run(&trial, 1), 300);
@@ -183,6 +188,7 @@ fn all_bounds_lists_of_two() {
         ],
         wait: 33,
         step: 9,
+        loaded: 0,
         start: 0,
     };
     require(&run(&trial, 2), 80);
@@ -201,6 +207,7 @@ fn all_bounds_lists_of_three() {
         ],
         wait: 33,
         step: 9,
+        loaded: 0,
         start: 0,
     };
     require(&run(&trial, 3), 10);
@@ -215,8 +222,55 @@ fn near_the_last_date() {
         bounds: &[Bounds { low: 0, high: 2 }, Bounds { low: 1, high: 4 }],
         wait: 6,
         step: 1,
+        loaded: 0,
         start: LAST_DATE - 6,
     };
     let seen = run(&trial, 4);
     assert!(seen.too_late >= 100, "{seen:?}");
+}
+
+/// A trial with small bounds of a box loaded at a date.
+fn loaded_at(loaded: u32, step: u32) -> Trial {
+    Trial {
+        sheets: 1500,
+        calls: 12,
+        list: 3,
+        bounds: &[Bounds { low: 0, high: 2 }, Bounds { low: 1, high: 4 }],
+        wait: 6,
+        step,
+        loaded,
+        start: loaded,
+    }
+}
+
+#[test]
+fn loaded_in_the_middle_of_a_day() {
+    // Counted from date 0, the first readings would be above some bounds at 3
+    // and above all at 43200.
+    for (loaded, salt) in [(3, 5), (43_200, 6)] {
+        require(&run(&loaded_at(loaded, 3), salt), 100);
+    }
+}
+
+#[test]
+fn loaded_with_all_bounds() {
+    let trial = Trial {
+        sheets: 600,
+        calls: 10,
+        list: 2,
+        bounds: &[Bounds { low: 0, high: 30 }, Bounds { low: 3, high: 12 }],
+        wait: 33,
+        step: 9,
+        ..loaded_at(86_400, 9)
+    };
+    require(&run(&trial, 7), 25);
+}
+
+#[test]
+fn loaded_near_the_last_date() {
+    for (before, salt) in [(6, 8), (0, 9)] {
+        let seen = run(&loaded_at(LAST_DATE - before, 1), salt);
+        assert!(seen.too_late >= 100, "{seen:?}");
+        assert!(seen.scheduled >= 100 && seen.held >= 100, "{seen:?}");
+    }
 }

@@ -14,7 +14,7 @@ use lib.Pow.{pow-pos, pow-lt, shl-exact}
 use borrow.Author.Tests.{eqb-true, eqb-false, eq-eqb, ltb-true, ltb-false}
 use Rattle.enforcement.specs.Limits.{maxCount}
 use Rattle.enforcement.specs.Automaton.{Bytes, clocks, locations}
-use Rattle.enforcement.specs.Loading.{Loads}
+use Rattle.enforcement.specs.Loading.{WellFormed}
 use Rattle.enforcement.specs.TimedWord.{Configuration}
 use Rattle.enforcement.specs.Model.{width}
 use Rattle.enforcement.proofs.Loading.{header}
@@ -43,7 +43,7 @@ same-row h t l i j a b e = go (eqb t l) refl
         apart true y = let q = rows-end h (ltb-true t l y) in omega arith
         apart false y = let w = ltb-false t l y in let q = rows-end h {t = l} {u = t} (omega (arith, z)) in omega arith
 
-module _ (s : Bytes) (l : ℕ) (r : List ℕ) (old : List ℕ) (h w y : ℕ) (b : Empty s old) (loads : Loads s) (stands : Standing s l r) (e : h ≡ height s) (f : w ≡ l) (g : y ≡ getD r 1 0) where
+module _ (s : Bytes) (l : ℕ) (r : List ℕ) (old : List ℕ) (h w y : ℕ) (b : Empty s old) (loads : WellFormed s) (stands : Standing s l r) (e : h ≡ height s) (f : w ≡ l) (g : y ≡ getD r 1 0) where
   one-clock-row : (c : Bool) → eqb (clocks s) 1 ≡ c → width ≤ getD r 1 0 + cond c 1 width
   one-clock-row true x = omega (arith, stands .one-clock (eqb-true (clocks s) 1 x))
   one-clock-row false x = omega arith
@@ -144,7 +144,7 @@ module _ (n m : ℕ) (h : n ≤ m) where
   pub empty-front : (s : Bytes) → n ≡ locations s * height s → Empty s (take n zeros)
   empty-front s e = record { sized = first-length ∙ e; empty = λ i. first-at i (ltb i n) refl }
 
-module _ (s : Bytes) (n : ℕ) (loads : Loads s) where
+module _ (s : Bytes) (n : ℕ) (loads : WellFormed s) where
   -- The array for one clock, or for either number, has room for a set.
   pub room-one : clocks s ≡ 1 → n ≡ locations s * height s → n ≤ maxCount * 1
   room-one e k =

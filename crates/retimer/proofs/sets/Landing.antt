@@ -10,8 +10,8 @@ use native.Mathlib.Omega.{arith}
 use lib.Dec.{ltb}
 use lib.ListN.{getD}
 use borrow.Author.Tests.{ltb-true, ltb-false}
-use Rattle.enforcement.specs.Automaton.{Bytes, Transition, automaton, transitions, bit, locations}
-use Rattle.enforcement.specs.Loading.{Loads, AllFit, Bounded}
+use Rattle.enforcement.specs.Automaton.{Bytes, Transition, transitions, bit, locations}
+use Rattle.enforcement.specs.Loading.{WellFormed, AllFit, Bounded}
 use Rattle.enforcement.specs.TimedWord.{Configuration, step}
 use Rattle.enforcement.specs.Model.{top, advance}
 use Rattle.enforcement.proofs.Loading.{bounded}
@@ -26,7 +26,7 @@ use Rattle.retimer.proofs.sets.Stepping.{second-of, reset-height}
 abbrev pub Lands : Bytes → Configuration → Type 0
 Lands s q = (t : ℕ) × (x : ℕ) × (i : ℕ) × (t < locations s) × (i < height s) × (q ≡ at (height s) t x i)
 
-module _ (s : Bytes) (loads : Loads s) (c l x i u : ℕ) (inside : i < height s) where
+module _ (s : Bytes) (loads : WellFormed s) (c l x i u : ℕ) (inside : i < height s) where
   one-lands : (q : Configuration) (ts : List Transition) → AllFit s ts → One (Taken c (advance u (at (height s) l x i)) q) ts → Lands s q
   one-lands q [] f w = absurd w
   one-lands q (v ∷ ts) f (inr w) = one-lands q ts (f .1) w
@@ -36,7 +36,7 @@ module _ (s : Bytes) (loads : Loads s) (c l x i u : ℕ) (inside : i < height s)
       go true e k = (v .target, cond (bit (v .resets) 0) 0 (min (x + u) top), 0, f .0 .target-fits, height-most s .0, sym k ∙ point refl refl (omega (arith, reset-height s v (f .0) e)))
       go false e k = (v .target, cond (bit (v .resets) 0) 0 (min (x + u) top), min (i + u) (height s - 1), f .0 .target-fits, omega (arith, height-most s .0), sym k ∙ point refl refl (sym (second-of s i u inside)))
 
-  pub step-lands : (q : Configuration) → step (automaton s) c (advance u (at (height s) l x i)) ≡ some q → Lands s q
+  pub step-lands : (q : Configuration) → step s c (advance u (at (height s) l x i)) ≡ some q → Lands s q
   unfolding Bounded
   step-lands q e = one-lands q (transitions s l) (bounded s loads l) (step-one s loads c (advance u (at (height s) l x i)) q .0 e)
 
@@ -104,7 +104,7 @@ module _ (s : Bytes) (set new : List ℕ) (places : ℕ) (r : Reached s set plac
 
 -- ---- All locations are played
 
-module _ (s : Bytes) (loads : Loads s) (c : ℕ) (set nxt : List ℕ) (places found : ℕ) (r : Reached s set places) (p : PlayedBelow s c set (locations s) nxt found) where
+module _ (s : Bytes) (loads : WellFormed s) (c : ℕ) (set nxt : List ℕ) (places found : ℕ) (r : Reached s set places) (p : PlayedBelow s c set (locations s) nxt found) where
   moved : (t x i : ℕ) {l : ℕ} → Moves s c set l t x i → Moved s c set (at (height s) t x i)
   moved t x i {l} m = record { from = at (height s) l (m .from-x) (m .from-i); member = contains-at (m .inside) (m .member); ticks = m .ticks; steps = m .good }
 
@@ -118,7 +118,7 @@ module _ (s : Bytes) (loads : Loads s) (c : ℕ) (set nxt : List ℕ) (places fo
   from q d =
       let m = d .member in
       let e = at-row m in
-      let w : step (automaton s) c (advance (d .ticks) (at (height s) (d .from .location) (d .from .x) (m .row))) ≡ some q = ap (λ (z : Configuration). step (automaton s) c (advance (d .ticks) z)) (sym e) ∙ d .steps in
+      let w : step s c (advance (d .ticks) (at (height s) (d .from .location) (d .from .x) (m .row))) ≡ some q = ap (λ (z : Configuration). step s c (advance (d .ticks) z)) (sym e) ∙ d .steps in
       let z = step-lands s loads c (d .from .location) (d .from .x) (m .row) (d .ticks) (m .inside) q w in
       let n : Moves s c set (d .from .location) (z .0) (z .1) (z .2) = record { from-x = d .from .x; from-i = m .row; ticks = d .ticks; inside = m .inside; member = m .holds; good = w ∙ ap some (z .5) } in
       let k = p .right (z .0) (z .1) (z .2) (z .4) .1 (d .from .location, reached-known r m, n) in

@@ -15,7 +15,7 @@ use borrow.Author.Tests.{eqb-true, eqb-false}
 use borrow.Rule.Slice.PartMut.{putMid}
 use Rattle.enforcement.specs.Limits.{maxCount}
 use Rattle.enforcement.specs.Automaton.{Bytes, Transition, byte, word, transitionAt, transitionsFrom, transitions, clocks, locations}
-use Rattle.enforcement.specs.Loading.{Loads, Fits, AllFit}
+use Rattle.enforcement.specs.Loading.{WellFormed, Fits, AllFit}
 use Rattle.enforcement.specs.TimedWord.{Configuration}
 use Rattle.enforcement.specs.Model.{width}
 use Rattle.enforcement.proofs.Loading.{header}
@@ -42,7 +42,7 @@ height-most s = go (eqb (clocks s) 1)
     go false = (omega arith, omega arith)
 
 -- The rows of a location lie in a set, and their places are small numbers.
-pub rows-inside : (s : Bytes) (set : List ℕ) (t h : ℕ) → Loads s → Whole s set → t < locations s → h ≡ height s → (t * h + h ≤ length set) × (length set ≤ maxCount * width)
+pub rows-inside : (s : Bytes) (set : List ℕ) (t h : ℕ) → WellFormed s → Whole s set → t < locations s → h ≡ height s → (t * h + h ≤ length set) × (length set ≤ maxCount * width)
 rows-inside s set t h loads w l e =
     let a = rows-end h l in
     let b : locations s * h ≤ maxCount * h = mul-le-mul-right h (header s loads .locations-fit) in

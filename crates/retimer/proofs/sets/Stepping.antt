@@ -14,7 +14,7 @@ use borrow.Author.Tests.{eqb-true, eqb-false, ltb-true, ltb-false}
 use borrow.Rule.Slice.PartMut.{putMid}
 use Rattle.enforcement.specs.Limits.{maxCount}
 use Rattle.enforcement.specs.Automaton.{Bytes, Transition, transitions, bit, clocks, locations, enabled}
-use Rattle.enforcement.specs.Loading.{Loads, Fits, AllFit, Bounded}
+use Rattle.enforcement.specs.Loading.{WellFormed, Fits, AllFit, Bounded}
 use Rattle.enforcement.specs.TimedWord.{Configuration}
 use Rattle.enforcement.specs.Model.{top, width, advance}
 use Rattle.enforcement.proofs.Loading.{bounded}
@@ -104,7 +104,7 @@ module _ (s : Bytes) (c l : ℕ) (part out : List ℕ) (sized : length part ≡ 
 
 -- ---- From a location of a set
 
-module _ (s : Bytes) (c l : ℕ) (set nxt : List ℕ) (h k : ℕ) (loads : Loads s) (known : l < locations s) (ws : Whole s set) (e : h ≡ height s) (same : k ≡ h) where
+module _ (s : Bytes) (c l : ℕ) (set nxt : List ℕ) (h k : ℕ) (loads : WellFormed s) (known : l < locations s) (ws : Whole s set) (e : h ≡ height s) (same : k ≡ h) where
   pub from-fits : (l * h + h ≤ length set) × (length set ≤ maxCount * width)
   from-fits = rows-inside s set l h loads ws known e
 

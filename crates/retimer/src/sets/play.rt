@@ -9,7 +9,7 @@ ghost use mathlib.Core.Path.{_≡_};
 ghost use Prim.Native.Nat.{_+_, _*_, _≤_, _<_};
 ghost use lib.ListN.{length};
 ghost use Rattle.enforcement.specs.Automaton.{transitionAt, locations};
-ghost use Rattle.enforcement.specs.Loading.{Loads, Fits};
+ghost use Rattle.enforcement.specs.Loading.{WellFormed, Fits};
 ghost use Rattle.retimer.specs.Readings.{Standing, located};
 ghost use Rattle.retimer.specs.Sets.{height, Whole, Cleared, Plays, FiredInto, PlayedAt, PlayedFrom, Reached, Played, Elapsed, Empty, Single};
 
@@ -47,7 +47,7 @@ fn play_at(s: &[u8], c: u8, l: usize, src: &[u64], next: &mut [u64]) -> u16
 
 // Waits at location l, and plays an action from there.
 fn play_from(s: &[u8], c: u8, l: usize, set: &mut [u64], next: &mut [u64]) -> u16
-    requires { ⌜ ((Loads (now s)) × (l < locations (now s))) × ((Whole (now s) (now set)) × (Whole (now s) (now next))) ⌝ }
+    requires { ⌜ ((WellFormed (now s)) × (l < locations (now s))) × ((Whole (now s) (now set)) × (Whole (now s) (now next))) ⌝ }
     ensures { λ v. ⌜ PlayedFrom (now (s .entry)) c l (now (set .entry)) (now (set .exit)) (now (next .entry)) (now (next .exit)) v ⌝ }
 {
     let h = bounds::height(s);
@@ -70,7 +70,7 @@ fn clear(set: &mut [u64])
 
 // Waits, and plays an action: `next` becomes what it makes of the set, and the answer is where. The set becomes what any wait makes of it.
 pub fn play(s: &[u8], c: u8, set: &mut [u64], places: u16, next: &mut [u64]) -> u16
-    requires { ⌜ (Loads (now s)) × ((Reached (now s) (now set) places) × (Whole (now s) (now next))) ⌝ }
+    requires { ⌜ (WellFormed (now s)) × ((Reached (now s) (now set) places) × (Whole (now s) (now next))) ⌝ }
     ensures { λ v. ⌜ (Played (now (s .entry)) c (now (set .entry)) (now (next .exit)) v) × (Elapsed (now (s .entry)) (now (set .entry)) (now (set .exit)) places) ⌝ }
 {
     clear(next);
@@ -88,7 +88,7 @@ pub fn play(s: &[u8], c: u8, set: &mut [u64], places: u16, next: &mut [u64]) -> 
 
 // How many numbers a set of the automaton's configurations has.
 pub fn size(s: &[u8]) -> usize
-    requires { ⌜ Loads (now s) ⌝ }
+    requires { ⌜ WellFormed (now s) ⌝ }
     ensures { λ n. ⌜ n ≡ locations (now (s .entry)) * height (now (s .entry)) ⌝ }
 {
     bytes::wide(s[0]) * bounds::height(s)
@@ -96,7 +96,7 @@ pub fn size(s: &[u8]) -> usize
 
 // Puts a configuration into an empty set; answers its place.
 pub fn begin(s: &[u8], l: u8, r: [u8; 2], set: &mut [u64]) -> u16
-    requires { ⌜ (Loads (now s)) × ((Standing (now s) l r) × (Empty (now s) (now set))) ⌝ }
+    requires { ⌜ (WellFormed (now s)) × ((Standing (now s) l r) × (Empty (now s) (now set))) ⌝ }
     ensures { λ v. ⌜ Single (now (s .entry)) (located l r) (now (set .exit)) v ⌝ }
 {
     let h = bounds::height(s);

@@ -33,7 +33,7 @@ offer-requires : tie.Need-offer-requires
 offer-requires c κs =
     let l = c .before .before .before .before .before .load in
     let e = c .before .before .enum-told .given in
-    l .ensures .fresh (accepted-loads _ (l .result .checked) (e .0 .0) (e .1) (l .ensures .checked)) .valid
+    l .ensures .fresh (accepted-loads _ 0 (l .result .checked) (e .0 .0) (e .1) (l .ensures .checked)) .valid
 
 slice-aggregate-print-call : tie.Need-slice-aggregate-print-call
 slice-aggregate-print-call c = search needs

@@ -22,7 +22,7 @@ load-requires : tie.Need-load-requires
 load-requires c κs = search needs
 
 returns : tie.Need-returns
-returns c = subst (λ (x : Bytes). LoadRight x (c .load .result)) (sheet-none (c .before .before .before .before .before .args .input .now) (c .before .before .before .size-in .result) (c .before .before .before .size-in .ensures .0) (c .before .before .if1 .taken)) (c .load .ensures)
+returns c = subst (λ (x : Bytes). LoadRight x (c .before .before .before .before .before .args .loaded) (c .load .result)) (sheet-none (c .before .before .before .before .before .args .input .now) (c .before .before .before .size-in .result) (c .before .before .before .size-in .ensures .0) (c .before .before .if1 .taken)) (c .load .ensures)
 
 sub-load : tie.Need-sub-load
 sub-load c = search needs
@@ -37,7 +37,7 @@ load-requires-2 : tie.Need-load-requires-2
 load-requires-2 c κs = search needs
 
 returns-2 : tie.Need-returns-2
-returns-2 c = subst (λ (x : Bytes). LoadRight x (c .load2 .result)) (sheet-some (c .before .before .before .before .before .args .input .now) (c .before .before .before .size-in .result) (c .before .before .before .size-in .ensures .0) (omega (arith, c .before .before .if1 .left))) (c .load2 .ensures)
+returns-2 c = subst (λ (x : Bytes). LoadRight x (c .before .before .before .before .before .args .loaded) (c .load2 .result)) (sheet-some (c .before .before .before .before .before .args .input .now) (c .before .before .before .size-in .result) (c .before .before .before .size-in .ensures .0) (omega (arith, c .before .before .if1 .left))) (c .load2 .ensures)
 
 pub load-spec : {M : Type 1} → statement M
 load-spec =

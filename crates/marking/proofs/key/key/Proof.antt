@@ -33,7 +33,7 @@ returns c =
     let a = c .before .before .before .before .before .before .before .before .before .before in
     let l = c .before .before .before .before .before .before .load in
     let w = c .before .before .before .before .checked-line in (
-      as-text (w .ensures) (key-refused (a .args .sheet .now) (a .args .calls .now) (l .result .checked) (l .ensures .checked) (c .enum-told2 .given .0 .0) (c .enum-told2 .given .1)),
+      as-text (w .ensures) (key-refused (a .args .sheet .now) (a .args .loaded) (a .args .calls .now) (l .result .checked) (l .ensures .checked) (c .enum-told2 .given .0 .0) (c .enum-told2 .given .1)),
       counted (w .ensures) (w .kept .0) (omega (arith, a .pre, checked-few (checkedOf (l .result .checked)))),
     )
 
@@ -50,8 +50,9 @@ mark-requires : tie.Need-mark-requires
 mark-requires c κs =
     let l = c .before .before .before .before .before .before .before .before .load in
     let w = c .before .before .before .before .before .before .checked-line in
-    let loads = accepted-loads (c .before .before .before .before .before .before .before .before .before .before .before .before .args .sheet .now) (l .result .checked) (c .before .before .enum-told .given .0 .0) (c .before .before .enum-told .given .1) (l .ensures .checked) in
-    (l .ensures .fresh loads .valid, (omega (arith, c .before .before .before .before .before .before .before .before .before .before .before .before .good .1 .0), omega (arith, w .ensures .ends, w .kept .0, checked-few (checkedOf (l .result .checked)), part-length (w .last .0) (w .result))))
+    let a = c .before .before .before .before .before .before .before .before .before .before .before .before .args in
+    let loads = accepted-loads (a .sheet .now) (a .loaded) (l .result .checked) (c .before .before .enum-told .given .0 .0) (c .before .before .enum-told .given .1) (l .ensures .checked) in
+    (l .ensures .fresh loads .valid, (omega (arith, c .before .before .before .before .before .before .before .before .before .before .before .before .good .1 .1 .0), omega (arith, w .ensures .ends, w .kept .0, checked-few (checkedOf (l .result .checked)), part-length (w .last .0) (w .result))))
 
 add-result : tie.Need-add-result
 add-result c =
@@ -59,7 +60,7 @@ add-result c =
     let l = c .before .before .before .before .before .before .before .before .before .before .before .before .load in
     let w = c .before .before .before .before .before .before .before .before .before .before .checked-line in
     let m = c .before .before .before .mark in
-    omega (arith, a .pre, a .good .1 .1 .0 .1, w .ensures .ends, w .kept .0, checked-few (checkedOf (l .result .checked)), m .ensures .counts .0, m .kept .1 .1 .1 .0, part-length (w .last .0) (w .result))
+    omega (arith, a .pre, a .good .1 .1 .1 .0 .1, w .ensures .ends, w .kept .0, checked-few (checkedOf (l .result .checked)), m .ensures .counts .0, m .kept .1 .1 .1 .0, part-length (w .last .0) (w .result))
 
 same-length-2 : tie.Need-same-length-2
 same-length-2 c = search needs
@@ -71,9 +72,9 @@ returns-2 c =
     let w = c .before .before .before .before .before .before .before .before .before .before .checked-line in
     let k = c .before .before .before .before .before .before .enum-told in
     let m = c .before .before .before .mark in
-    let loads = accepted-loads (a .args .sheet .now) (l .result .checked) (k .given .0 .0) (k .given .1) (l .ensures .checked) in (
+    let loads = accepted-loads (a .args .sheet .now) (a .args .loaded) (l .result .checked) (k .given .0 .0) (k .given .1) (l .ensures .checked) in (
       as-text (joined (omega (arith, a .pre, w .ensures .ends, checked-few (checkedOf (l .result .checked)))) (w .ensures) (m .ensures .wrote))
-          (key-accepted (a .args .sheet .now) (a .args .calls .now) (l .result .checked) (l .ensures .checked) (k .given .0 .0) (l .result .monitor) (k .given .1) (l .ensures .fresh loads)),
+          (key-accepted (a .args .sheet .now) (a .args .loaded) (a .args .calls .now) (l .result .checked) (l .ensures .checked) (k .given .0 .0) (l .result .monitor) (k .given .1) (l .ensures .fresh loads)),
       both-count (w .last .0) (m .last .1 .1 .1 .0) (w .result) (length (w .last .0) - w .result) (w .result) (m .result .size) (omega (arith, a .pre, w .ensures .ends, w .kept .0, checked-few (checkedOf (l .result .checked)))) (omega arith) (m .ensures .counts .0),
     )
 

@@ -15,26 +15,27 @@ use Rattle.retimer.proofs.replay.replay.Statement.{statement}
 use Rattle.retimer.proofs.replay.replay.Tie as tie
 
 abbrev Inv-loop : tie.InvT-loop
-Inv-loop s calls checked answer₀ size sheet live q₀ i₀ answer q i = Replaying (record { bytes = sheet; size = size; live = live; state = q₀ }) calls i (record { bytes = sheet; size = size; live = live; state = q }) answer
+Inv-loop s loaded calls checked answer₀ size sheet live q₀ i₀ answer q i = Replaying (record { bytes = sheet; size = size; live = live; state = q₀ }) calls i (record { bytes = sheet; size = size; live = live; state = q }) answer
 
 abbrev μ-loop : tie.MeasureT-loop
-μ-loop s calls checked answer₀ size sheet live q₀ i₀ answer q i = length calls - i
+μ-loop s loaded calls checked answer₀ size sheet live q₀ i₀ answer q i = length calls - i
 
 -- Where the check accepted the sheet, it loads, and the box is a fresh one of it.
-accepts : (e : tie.After-enum-told Inv-loop μ-loop) → Loads (e .before .before .before .before .before .before .args .s .now)
+accepts : (e : tie.After-enum-told Inv-loop μ-loop) → let a = e .before .before .before .before .before .before .args in Loads (a .s .now) (a .loaded)
 accepts e =
+    let a = e .before .before .before .before .before .before .args in
     let v = e .before .before .before .load in
-    accepted-loads (e .before .before .before .before .before .before .args .s .now) (v .result .checked) (e .enum-told .given .0 .0) (e .enum-told .given .1) (v .ensures .checked)
+    accepted-loads (a .s .now) (a .loaded) (v .result .checked) (e .enum-told .given .0 .0) (e .enum-told .given .1) (v .ensures .checked)
 
-loaded : (e : tie.After-enum-told Inv-loop μ-loop) → FreshRight (e .before .before .before .before .before .before .args .s .now) (e .before .before .before .load .result .monitor)
-loaded e = e .before .before .before .load .ensures .fresh (accepts e)
+begun : (e : tie.After-enum-told Inv-loop μ-loop) → let a = e .before .before .before .before .before .before .args in FreshRight (a .s .now) (a .loaded) (e .before .before .before .load .result .monitor)
+begun e = e .before .before .before .load .ensures .fresh (accepts e)
 
 -- What is handed back after the loop.
 ended : (c : tie.After-loop Inv-loop μ-loop) →
     let a = c .before .before .before .before .before .before .before .before .before .before .before .before .before .before .args in
     let v = c .before .before .before .before .before .before .before .before .before .before .before .load .result in
     let l = c .before .loop in
-    ReplayRight (a .s .now) (a .calls .now) (record { checked = v .checked; monitor = withState (v .monitor) (l .q); answer = l .answer })
+    ReplayRight (a .s .now) (a .loaded) (a .calls .now) (record { checked = v .checked; monitor = withState (v .monitor) (l .q); answer = l .answer })
 ended c =
     let v = c .before .before .before .before .before .before .before .before .before .before .before .load in
     record {
@@ -55,7 +56,8 @@ enum-told-2 c = search needs
 returns : tie.Need-returns Inv-loop μ-loop
 returns c =
     let v = c .before .before .before .load in
-    let none = refused-loads (c .before .before .before .before .before .before .args .s .now) (v .result .checked) (c .enum-told2 .given .0 .0) (c .enum-told2 .given .1) (v .ensures .checked) in
+    let a = c .before .before .before .before .before .before .args in
+    let none = refused-loads (a .s .now) (a .loaded) (v .result .checked) (c .enum-told2 .given .0 .0) (c .enum-told2 .given .1) (v .ensures .checked) in
     record { checked = v .ensures .checked; followed = λ l. absurd (none l); no-box = λ n. (v .ensures .no-box n, refl) }
 
 loop-holds : tie.Need-loop-holds Inv-loop μ-loop
@@ -65,10 +67,10 @@ add-loop : tie.Need-add-loop Inv-loop μ-loop
 add-loop c = omega (arith, c .loop .inv .inside)
 
 slice-aggregate-call-at : tie.Need-slice-aggregate-call-at Inv-loop μ-loop
-slice-aggregate-call-at c = sheet-size (loaded (c .before .before .before .before .before .before .before .before .before) .valid .sound)
+slice-aggregate-call-at c = sheet-size (begun (c .before .before .before .before .before .before .before .before .before) .valid .sound)
 
 call-at-requires : tie.Need-call-at-requires Inv-loop μ-loop
-call-at-requires c κs = (valid-state (replaying-valid (loaded (c .before .before .before .before .before .before .before .before .before) .valid) (c .before .before .loop .inv)), omega (arith, c .before .loop-test .taken))
+call-at-requires c κs = (valid-state (replaying-valid (begun (c .before .before .before .before .before .before .before .before .before) .valid) (c .before .before .loop .inv)), omega (arith, c .before .loop-test .taken))
 
 add-i : tie.Need-add-i Inv-loop μ-loop
 add-i c = record { fits = omega (arith, c .before .before .before .loop-test .taken, c .before .before .before .before .before .before .before .before .before .before .before .before .before .before .before .before .before .good) }
@@ -79,7 +81,7 @@ loop-less c = search needs
 loop-again : tie.Need-loop-again Inv-loop μ-loop
 loop-again c =
     let p = c .before .before .before .before .loop .inv in
-    replaying-one p (omega (arith, c .before .before .before .loop-test .taken)) (move-call (replaying-valid (loaded (c .before .before .before .before .before .before .before .before .before .before .before) .valid) p .sound) (c .before .call-at .ensures))
+    replaying-one p (omega (arith, c .before .before .before .loop-test .taken)) (move-call (replaying-valid (begun (c .before .before .before .before .before .before .before .before .before .before .before) .valid) p .sound) (c .before .call-at .ensures))
 
 with-state-requires : tie.Need-with-state-requires Inv-loop μ-loop
 with-state-requires c κs = search needs

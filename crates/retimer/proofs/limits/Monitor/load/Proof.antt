@@ -12,7 +12,7 @@ enum-told : tie.Need-enum-told
 enum-told c = search needs
 
 fresh-requires : tie.Need-fresh-requires
-fresh-requires c κs = accepted-loads (c .before .before .before .before .args .s .now) (c .before .before .check .result) (c .enum-told .given .0 .0) (c .enum-told .given .1) (c .before .before .check .ensures)
+fresh-requires c κs = let a = c .before .before .before .before .args in accepted-loads (a .s .now) (a .loaded) (c .before .before .check .result) (c .enum-told .given .0 .0) (c .enum-told .given .1) (c .before .before .check .ensures)
 
 enum-told-2 : tie.Need-enum-told-2
 enum-told-2 c = search needs
@@ -22,16 +22,16 @@ nothing-requires c κs = search needs
 
 returns : tie.Need-returns
 returns c =
-    let s = c .before .before .before .before .before .args .s .now in
+    let a = c .before .before .before .before .before .args in
     let k = c .before .before .before .check in
-    let l = accepted-loads s (k .result) (c .before .enum-told .given .0 .0) (c .before .enum-told .given .1) (k .ensures) in
+    let l = accepted-loads (a .s .now) (a .loaded) (k .result) (c .before .enum-told .given .0 .0) (c .before .enum-told .given .1) (k .ensures) in
     record { checked = k .ensures; fresh = λ m. c .fresh .ensures; no-box = λ n. absurd (n l) }
 
 returns-2 : tie.Need-returns-2
 returns-2 c =
-    let s = c .before .before .before .before .before .args .s .now in
+    let a = c .before .before .before .before .before .args in
     let k = c .before .before .before .check in
-    record { checked = k .ensures; fresh = λ l. absurd (refused-loads s (k .result) (c .before .enum-told2 .given .0 .0) (c .before .enum-told2 .given .1) (k .ensures) l); no-box = λ n. c .nothing .ensures }
+    record { checked = k .ensures; fresh = λ l. absurd (refused-loads (a .s .now) (a .loaded) (k .result) (c .before .enum-told2 .given .0 .0) (c .before .enum-told2 .given .1) (k .ensures) l); no-box = λ n. c .nothing .ensures }
 
 pub load-spec : {M : Type 1} → statement M
 load-spec =

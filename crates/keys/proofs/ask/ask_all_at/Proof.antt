@@ -1,16 +1,16 @@
--- `ask::ask_all` meets its contract: each turn ends a line.
+-- `ask::ask_all_at` meets its contract: each turn ends a line.
 -- Assumes nothing.
 use Prim.Native.Nat.{_-_}
 use native.Mathlib.Omega.{arith}
 use lib.ListN.{length}
-use Rattle.keys.proofs.ask.ask_all.Statement.{statement}
-use Rattle.keys.proofs.ask.ask_all.Tie as tie
+use Rattle.keys.proofs.ask.ask_all_at.Statement.{statement}
+use Rattle.keys.proofs.ask.ask_all_at.Tie as tie
 
 abbrev Inv-loop : tie.InvT-loop
-Inv-loop table at₀ at = Unit {0}
+Inv-loop loaded table at₀ at = Unit {0}
 
 abbrev μ-loop : tie.MeasureT-loop
-μ-loop table at₀ at = length table - at
+μ-loop loaded table at₀ at = length table - at
 
 loop-holds : tie.Need-loop-holds Inv-loop μ-loop
 loop-holds c = tt
@@ -42,8 +42,8 @@ loop-again c = tt
 returns : tie.Need-returns Inv-loop μ-loop
 returns c = tt
 
-pub ask-all-spec : {M : Type 1} → statement M
-ask-all-spec =
+pub ask-all-at-spec : {M : Type 1} → statement M
+ask-all-at-spec =
     tie.close
     (tie.spec
     Inv-loop

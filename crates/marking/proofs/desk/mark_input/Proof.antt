@@ -1,9 +1,9 @@
--- `desk::run` meets its contract: a sheet that is accepted has a fresh box.
+-- `desk::mark_input` meets its contract: a sheet that is accepted has a fresh box.
 -- Assumes nothing.
 use Rattle.retimer.proofs.Loads.{accepted-loads}
 use borrow.Author.Needs.{needs}
-use Rattle.marking.proofs.desk.run.Statement.{statement}
-use Rattle.marking.proofs.desk.run.Tie as tie
+use Rattle.marking.proofs.desk.mark_input.Statement.{statement}
+use Rattle.marking.proofs.desk.mark_input.Tie as tie
 
 slice-aggregate-read-sheet : tie.Need-slice-aggregate-read-sheet
 slice-aggregate-read-sheet c = search needs
@@ -36,13 +36,13 @@ print-checked-requires-2 : tie.Need-print-checked-requires-2
 print-checked-requires-2 c κs = search needs
 
 mark-calls-requires : tie.Need-mark-calls-requires
-mark-calls-requires c κs = c .before .before .before .before .load .ensures .fresh (accepted-loads _ (c .before .before .before .before .load .result .checked) (c .before .before .enum-told .given .0 .0) (c .before .before .enum-told .given .1) (c .before .before .before .before .load .ensures .checked)) .valid
+mark-calls-requires c κs = c .before .before .before .before .load .ensures .fresh (accepted-loads _ _ (c .before .before .before .before .load .result .checked) (c .before .before .enum-told .given .0 .0) (c .before .before .enum-told .given .1) (c .before .before .before .before .load .ensures .checked)) .valid
 
 returns-2 : tie.Need-returns-2
 returns-2 c = search needs
 
-pub run-spec : {M : Type 1} → statement M
-run-spec =
+pub mark-input-spec : {M : Type 1} → statement M
+mark-input-spec =
     tie.close
     (tie.spec
     slice-aggregate-read-sheet
