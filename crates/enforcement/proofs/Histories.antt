@@ -6,11 +6,11 @@ use native.Mathlib.Omega.{arith}
 use lib.ListN.{length, take, drop}
 use Rattle.enforcement.specs.Limits.{maxDate}
 use Rattle.enforcement.specs.Automaton.{Automaton, actions}
-use Rattle.enforcement.specs.TimedWord.{Event}
 use Rattle.enforcement.specs.Reason.{S-1}
 use Rattle.enforcement.specs.History.{History, Slot, fresh, schedule, Call, offer, collect, Outcome, refused, Answers, past, past-collect, HistoryOf, end, call}
 use Rattle.enforcement.specs.Constraints.{playedOf}
-use Rattle.enforcement.proofs.Constraints.{Effect, kept, played-in-order}
+use Rattle.enforcement.proofs.Constraints.{played-in-order}
+use Rattle.enforcement.proofs.Numbers.{not-before}
 
 -- A history, and then another from its end.
 pub history-append : (a : Automaton) (h h′ h″ : History) (ks more : List Call) (os us : List Outcome) → HistoryOf a h ks os h′ → HistoryOf a h′ more us h″ → HistoryOf a h (ks ++ more) (os ++ us) h″
@@ -28,20 +28,7 @@ none-played a h ks os r e =
     let p = played-in-order a h ks os r in
     ap (λ (n : ℕ). drop n (h .scheduled)) (take-none (h .played) (h .scheduled) (sym (p .0) ∙ e) (p .1))
 
--- No call takes a date back.
-stays-begun : (a : Automaton) (h h′ : History) (w i : List Event) (v p : List Slot) → Effect a h i p h′ → a .loaded ≤ h .date → a .loaded ≤ h′ .date
-stays-begun a h h′ w i v p Effect.rests x = x
-stays-begun a h h′ w i v p (Effect.passes t l) x = omega arith
-stays-begun a h h′ w i v p (Effect.plays t e rest l q) x = omega arith
-stays-begun a h h′ w i v p (Effect.drops c t l n) x = omega arith
-stays-begun a h h′ w i v p (Effect.holds c t l n) x = omega arith
-stays-begun a h h′ w i v p (Effect.schedules c t ds l n k) x = omega arith
-
--- No history is at a date before the loading date.
-pub begun : (a : Automaton) (h : History) (ks : List Call) (os : List Outcome) → HistoryOf a (fresh a) ks os h → a .loaded ≤ h .date
-begun a h ks os r = kept a (λ (g : History) (w : List Event) (v : List Slot). a .loaded ≤ g .date) (stays-begun a) (fresh a) h ks os [] [] r (omega arith)
-
--- So a collection before it is S-1, after any calls, and so is an offer of one of the sheet's actions.
+-- A collection before the loading date is S-1, after any calls, and so is an offer of one of the sheet's actions.
 pub before-loading : (a : Automaton) (h : History) (ks : List Call) (os : List Outcome) → HistoryOf a (fresh a) ks os h → a .loaded ≤ maxDate → (t : ℕ) → t < a .loaded
     → Answers a h (collect t) (refused S-1) h × ((c : ℕ) → c < actions (a .bytes) → Answers a h (offer c t) (refused S-1) h)
-before-loading a h ks os r l t e = let b = begun a h ks os r in (past-collect {t = t} (omega arith) (omega arith), λ c k. past {t = t} k (omega arith) (omega arith))
+before-loading a h ks os r l t e = let b = not-before a h ks os r in (past-collect {t = t} (omega arith) (omega arith), λ c k. past {t = t} k (omega arith) (omega arith))

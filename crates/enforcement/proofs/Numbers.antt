@@ -9,6 +9,7 @@ use Rattle.enforcement.specs.Limits.{maxNumbered}
 use Rattle.enforcement.specs.Automaton.{Automaton}
 use Rattle.enforcement.specs.TimedWord.{Event, Monotone}
 use Rattle.enforcement.specs.History.{Request, Slot, place, History, fresh, Call, Outcome, numberedNext, joined, afterSchedule, afterHold, afterDate, afterDrop, afterPlay, Answers, unknown, late, past, no-number, too-late, no-place, full, late-collect, past-collect, too-early, empty, is-dark, is-lit, HistoryOf, call}
+use Rattle.enforcement.specs.Constraints.{inputOf}
 use Rattle.enforcement.specs.Numbers.{requestsIn, requestsOver, requestsOf, numbersOf, offeredOf, Rising, AtMost, NoneEarly, Ordered, keptFrom, Numbers}
 use Rattle.enforcement.proofs.Slots.{actions-length, request-place}
 use Rattle.enforcement.proofs.Runs.{monotone-from}
@@ -194,11 +195,19 @@ requests-kept : (a : Automaton) (h h′ : History) (ks : List Call) (os : List O
 requests-kept a h h′ ks os HistoryOf.end = sym (append-nil (requestsOf h))
 requests-kept a h h′ ks os (call {h′ = m} {k = k} {ks = rest} {o = o} {os = us} x r) = requests-kept a m h′ rest us r ∙ sym (call-keeps a h m k o rest us x)
 
+history-kept : (a : Automaton) (h : History) (ks : List Call) (os : List Outcome) → HistoryOf a (fresh a) ks os h → Kept a h (inputOf ks os)
+history-kept a h ks os r =
+    kept a (λ (g : History) (w : List Event) (v : List Slot). Kept a g w) (stays-kept a) (fresh a) h ks os [] [] r
+    (record { ordered = record { rise = tt; counted = tt; none-early = tt; offered-rise = tt; offered-past = tt }; count-is = refl; count-fits = omega arith; begun = le-refl (a .loaded) })
+
+-- No history is at a date before the loading date.
+pub not-before : (a : Automaton) (h : History) (ks : List Call) (os : List Outcome) → HistoryOf a (fresh a) ks os h → a .loaded ≤ h .date
+not-before a h ks os r = history-kept a h ks os r .begun
+
 pub numbers : (a : Automaton) → Numbers a
 unfolding Numbers
 numbers a ks os h r =
-    let x = kept a (λ (g : History) (w : List Event) (v : List Slot). Kept a g w) (stays-kept a) (fresh a) h ks os [] [] r
-    (record { ordered = record { rise = tt; counted = tt; none-early = tt; offered-rise = tt; offered-past = tt }; count-is = refl; count-fits = omega arith; begun = le-refl (a .loaded) }) in
+    let x = history-kept a h ks os r in
     record {
       ordered = x .ordered;
       left-ordered = ordered-left (h .played) (h .scheduled) (h .pending) (x .ordered);

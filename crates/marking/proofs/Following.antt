@@ -12,7 +12,7 @@ use lib.ListN.{length, length-append}
 use lib.Seq.{length-take-le}
 use Rattle.enforcement.specs.Automaton.{Bytes}
 use Rattle.enforcement.specs.History.{Call}
-use Rattle.enforcement.specs.Model.{Compiled}
+use Rattle.enforcement.specs.Model.{Compiled, compile}
 use Rattle.enforcement.specs.Monitor.{answer, replay}
 use Rattle.enforcement.specs.Monitor as model
 use Rattle.report.specs.Texts.{ascii, numeral, Wrote}
@@ -25,7 +25,6 @@ use Rattle.retimer.specs.declared.limits.Monitor.{Monitor}
 use Rattle.retimer.specs.declared.state.Answer.{Answer}
 use Rattle.retimer.specs.declared.state.Answer.the-variants.{Scheduled, Held, Dropped, Played, Nothing, Lit, Dark, Refused}
 use Rattle.retimer.specs.declared.state.Moved.{Moved}
-use Rattle.retimer.specs.Optimum.{modelOf}
 use Rattle.retimer.specs.View.{bytesOf, view, viewOf, StateValid, Sound, Valid}
 use Rattle.retimer.specs.Calls.{outcomeOf, movedOf, withState, MoveRight}
 use Rattle.retimer.specs.Replay.{callAt, callsFrom, callsOf}
@@ -83,8 +82,8 @@ pub record Marking (start : Monitor) (s : Bytes) (n : ℕ) (before out : List �
   pub text : List ℕ
   pub wrote : Wrote before 0 text out end
   pub few : end ≤ 120 * done
-  pub lines : text ++ linesOf (modelOf (bytesOf start)) (view q) made (callsFrom s (length s / 5 - done) i) ≡ linesOf (modelOf (bytesOf start)) (viewOf start) n (callsOf s)
-  pub monitor : replay (modelOf (bytesOf start)) (view q) (callsFrom s (length s / 5 - done) i) .monitor ≡ replay (modelOf (bytesOf start)) (viewOf start) (callsOf s) .monitor
+  pub lines : text ++ linesOf (compile (bytesOf start)) (view q) made (callsFrom s (length s / 5 - done) i) ≡ linesOf (compile (bytesOf start)) (viewOf start) n (callsOf s)
+  pub monitor : replay (compile (bytesOf start)) (view q) (callsFrom s (length s / 5 - done) i) .monitor ≡ replay (compile (bytesOf start)) (viewOf start) (callsOf s) .monitor
   pub valid : StateValid (bytesOf start) (start .live) q
   pub sized : length out ≡ length before
 
@@ -100,8 +99,8 @@ begins start s n x v = record {
   text = [];
   wrote = writes-none x 0;
   few = omega arith;
-  lines = ap (λ (k : ℕ). linesOf (modelOf (bytesOf start)) (viewOf start) n (callsFrom s k 0)) (none-done (length s / 5));
-  monitor = ap (λ (k : ℕ). replay (modelOf (bytesOf start)) (viewOf start) (callsFrom s k 0) .monitor) (none-done (length s / 5));
+  lines = ap (λ (k : ℕ). linesOf (compile (bytesOf start)) (viewOf start) n (callsFrom s k 0)) (none-done (length s / 5));
+  monitor = ap (λ (k : ℕ). replay (compile (bytesOf start)) (viewOf start) (callsFrom s k 0) .monitor) (none-done (length s / 5));
   valid = valid-state v;
   sized = refl;
 }
@@ -123,7 +122,7 @@ module _ {start : Monitor} {s : Bytes} {n : ℕ} {before out : List ℕ} {q : St
   left = omega (arith, one-more)
 
   m : Compiled
-  m = modelOf (bytesOf start)
+  m = compile (bytesOf start)
 
   k : Call
   k = callAt s i
@@ -186,20 +185,20 @@ module _ {start : Monitor} {s : Bytes} {n : ℕ} {before out : List ℕ} {q : St
   none-left : length s / 5 - g .done ≡ 0
   none-left = omega (arith, all-done)
 
-  text-all : g .text ≡ linesOf (modelOf (bytesOf start)) (viewOf start) n (callsOf s)
+  text-all : g .text ≡ linesOf (compile (bytesOf start)) (viewOf start) n (callsOf s)
   unfolding linesOf callsFrom
-  text-all = sym (append-nil (g .text)) ∙ ap (λ (j : ℕ). g .text ++ linesOf (modelOf (bytesOf start)) (view q) made (callsFrom s j i)) (sym none-left) ∙ g .lines
+  text-all = sym (append-nil (g .text)) ∙ ap (λ (j : ℕ). g .text ++ linesOf (compile (bytesOf start)) (view q) made (callsFrom s j i)) (sym none-left) ∙ g .lines
 
-  monitor-all : view q ≡ replay (modelOf (bytesOf start)) (viewOf start) (callsOf s) .monitor
+  monitor-all : view q ≡ replay (compile (bytesOf start)) (viewOf start) (callsOf s) .monitor
   unfolding replay callsFrom
-  monitor-all = ap (λ (j : ℕ). replay (modelOf (bytesOf start)) (view q) (callsFrom s j i) .monitor) (sym none-left) ∙ g .monitor
+  monitor-all = ap (λ (j : ℕ). replay (compile (bytesOf start)) (view q) (callsFrom s j i) .monitor) (sym none-left) ∙ g .monitor
 
   pub finishes : {out′ : List ℕ} {size : ℕ} → Sound start → 120 * (length s / 5) + 120 ≤ length before → Wrote out end (tailLine (length s - i)) out′ size → length out′ ≡ length out
       → MarkRight start s n before out′ (record { monitor = withState start q; calls = made; size = size })
   finishes {out′} {size} f room wrote kept =
       let fits : size ≤ length out′ = omega (arith, wrote .ends, g .few, g .inside, g .sized, kept, tail-few (length s - i)) in
       record {
-        wrote = as-text (next (omega (arith, g .few, g .inside)) (g .wrote) wrote) (ap (λ (t : List ℕ). t ++ tailLine (length s - i)) text-all ∙ ap (λ (j : ℕ). linesOf (modelOf (bytesOf start)) (viewOf start) n (callsOf s) ++ tailLine j) left-over);
+        wrote = as-text (next (omega (arith, g .few, g .inside)) (g .wrote) wrote) (ap (λ (t : List ℕ). t ++ tailLine (length s - i)) text-all ∙ ap (λ (j : ℕ). linesOf (compile (bytesOf start)) (viewOf start) n (callsOf s) ++ tailLine j) left-over);
         counts = (fits, sym (length-take-le size out′ fits));
         calls-are = omega (arith, g .made-is, all-done);
         monitor-is = monitor-all;

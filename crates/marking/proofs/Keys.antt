@@ -9,6 +9,7 @@ use lib.Seq.{length-take-le, take-all, drop-drop}
 use Rattle.enforcement.specs.Automaton.{Bytes, automaton}
 use Rattle.enforcement.specs.Loading.{check}
 use Rattle.enforcement.specs.Loading as loading
+use Rattle.enforcement.specs.Model.{compile}
 use Rattle.enforcement.specs.Monitor.{freshMonitor}
 use Rattle.enforcement.specs.Monitor as model
 use Rattle.report.specs.Texts.{Wrote}
@@ -20,7 +21,6 @@ use Rattle.retimer.specs.declared.sheet.Counts.{Counts}
 use Rattle.retimer.specs.declared.sheet.Checked.{Checked}
 use Rattle.retimer.specs.declared.sheet.Checked.the-variants.{Accepted, Refused}
 use Rattle.retimer.specs.Checked.{checkedOf}
-use Rattle.retimer.specs.Optimum.{modelOf}
 use Rattle.retimer.specs.View.{bytesOf, viewOf}
 use Rattle.retimer.specs.Calls.{FreshRight}
 use Rattle.marking.specs.Marks.{blockText, textOf, keyText}
@@ -31,10 +31,10 @@ module _ (s : Bytes) (d : ℕ) (calls : Bytes) (v : Checked) (right : checkedOf 
   key-refused r e = ap (λ (w : Checked). checkedLine (checkedOf w)) e ∙ ap (λ (w : Checked). textOf (checkedOf w) s d calls) (sym e) ∙ ap (λ (k : loading.Checked). textOf k s d calls) right
 
   -- The fresh box of a sheet that loads at that date.
-  fresh-text : (b : Monitor) → FreshRight s d b → blockText (modelOf (bytesOf b)) (viewOf b) 0 calls ≡ blockText (modelOf s) (freshMonitor (automaton s d)) 0 calls
-  fresh-text b f = ap (λ (m : model.Monitor). blockText (modelOf (bytesOf b)) m 0 calls) (f .is) ∙ ap (λ (x : Bytes). blockText (modelOf x) (freshMonitor (automaton x d)) 0 calls) (f .sheet)
+  fresh-text : (b : Monitor) → FreshRight s d b → blockText (compile (bytesOf b)) (viewOf b) 0 calls ≡ blockText (compile s) (freshMonitor (automaton s d)) 0 calls
+  fresh-text b f = ap (λ (m : model.Monitor). blockText (compile (bytesOf b)) m 0 calls) (f .is) ∙ ap (λ (x : Bytes). blockText (compile x) (freshMonitor (automaton x d)) 0 calls) (f .sheet)
 
-  pub key-accepted : (k : Counts) (b : Monitor) → v ≡ Accepted k → FreshRight s d b → checkedLine (checkedOf v) ++ blockText (modelOf (bytesOf b)) (viewOf b) 0 calls ≡ keyText s d calls
+  pub key-accepted : (k : Counts) (b : Monitor) → v ≡ Accepted k → FreshRight s d b → checkedLine (checkedOf v) ++ blockText (compile (bytesOf b)) (viewOf b) 0 calls ≡ keyText s d calls
   key-accepted k b e f =
       ap₂ (λ (w : Checked) (t : List ℕ). checkedLine (checkedOf w) ++ t) e (fresh-text b f)
       ∙ ap (λ (w : Checked). textOf (checkedOf w) s d calls) (sym e) ∙ ap (λ (c : loading.Checked). textOf c s d calls) right

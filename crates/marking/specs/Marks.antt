@@ -11,7 +11,7 @@ use Rattle.enforcement.specs.Automaton.{Bytes, Automaton, automaton, word}
 use Rattle.enforcement.specs.Loading.{check}
 use Rattle.enforcement.specs.Loading as loading
 use Rattle.enforcement.specs.History.{History, Call, Outcome, Answers, Dark}
-use Rattle.enforcement.specs.Model.{Compiled}
+use Rattle.enforcement.specs.Model.{Compiled, compile}
 use Rattle.enforcement.specs.Monitor.{freshMonitor, answer, replay}
 use Rattle.enforcement.specs.Monitor as model
 use Rattle.io.specs.Counts.{Counts}
@@ -19,7 +19,6 @@ use Rattle.report.specs.Texts.{Wrote}
 use Rattle.report.specs.Lines.{sheetLine, refusedLine, outcomeText, callLine, tailLine}
 use Rattle.retimer.specs.declared.limits.Monitor.{Monitor}
 use Rattle.retimer.specs.Bytes.{doubleWord}
-use Rattle.retimer.specs.Optimum.{modelOf}
 use Rattle.retimer.specs.View.{bytesOf, viewOf, Valid}
 use Rattle.retimer.specs.Calls.{withState}
 use Rattle.retimer.specs.Replay.{callsOf}
@@ -46,10 +45,10 @@ blockText m b n s = linesOf m b n (callsOf s) ++ tailLine (length s % 5)
 
 -- The text of the block is written at the front of the buffer; the box is the model's after the block's calls, with bytes and table as they were.
 pub record MarkRight (b : Monitor) (s : Bytes) (n : ℕ) (before after : List ℕ) (r : Marked) : Type 0 where
-  pub wrote : Wrote before 0 (blockText (modelOf (bytesOf b)) (viewOf b) n s) after (r .size)
+  pub wrote : Wrote before 0 (blockText (compile (bytesOf b)) (viewOf b) n s) after (r .size)
   pub counts : Counts (r .size) after
   pub calls-are : r .calls ≡ n + length s / 5
-  pub monitor-is : viewOf (r .monitor) ≡ replay (modelOf (bytesOf b)) (viewOf b) (callsOf s) .monitor
+  pub monitor-is : viewOf (r .monitor) ≡ replay (compile (bytesOf b)) (viewOf b) (callsOf s) .monitor
   pub valid : Valid (r .monitor)
   pub kept : r .monitor ≡ withState b (r .monitor .state)
 
@@ -74,7 +73,7 @@ dateIn s = cond (ltb (length s) 4) 0 (doubleWord s 0)
 
 -- The text of a sheet that is loaded at d, and calls, by what the check answers: its line and, where it loads, the lines of the calls on a fresh box.
 abbrev pub textOf : loading.Checked → Bytes → ℕ → Bytes → List ℕ
-textOf (loading.accepted k) s d calls = sheetLine k ++ blockText (modelOf s) (freshMonitor (automaton s d)) 0 calls
+textOf (loading.accepted k) s d calls = sheetLine k ++ blockText (compile s) (freshMonitor (automaton s d)) 0 calls
 textOf (loading.refused r) s d calls = refusedLine r
 
 abbrev pub keyText : Bytes → ℕ → Bytes → List ℕ

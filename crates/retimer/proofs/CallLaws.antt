@@ -29,7 +29,6 @@ use Rattle.retimer.specs.declared.state.Answer.the-variants.{Lit, Dark, 
 use Rattle.retimer.specs.declared.state.Moved.{Moved}
 use Rattle.retimer.specs.declared.reason.Reason.the-variants.{I7, I8, S1, S5}
 use Rattle.retimer.specs.Readings.{located}
-use Rattle.retimer.specs.Optimum.{modelOf}
 use Rattle.retimer.specs.View.{bytesOf, view, Sound, Recorded, StateValid, Valid}
 use Rattle.retimer.specs.Calls.{movedOf, dropping, lampAt, withState, Done, MoveRight, CallRight}
 use Rattle.retimer.proofs.Views.{answering, done-same, refused-done, plain-done, dropped-done}
@@ -53,11 +52,11 @@ recorded-more {s} {v} {k} {w} r d = let a = automaton s (r .loaded) in record {
 }
 
 module _ {s : Bytes} {live : List ℕ} {q : State} (v : StateValid s live q) (k : Call) (r : Moved) where
-  demand : movedOf r ≡ answer (modelOf s) (view q) k → (d : ℕ) (h : History) → StandsFor (automaton s d) (view q) h → Demand2 (automaton s d) h k (movedOf r)
+  demand : movedOf r ≡ answer (compile s) (view q) k → (d : ℕ) (h : History) → StandsFor (automaton s d) (view q) h → Demand2 (automaton s d) h k (movedOf r)
   unfolding Demand2All
   demand e d h f = subst⁻¹ (λ (w : model.Answered). Demand2 (automaton s d) h k w) e (demand-2 (automaton s d) (bounded s (v .sound .loads)) h (view q) f k)
 
-  done-right : Done s live q (answer (modelOf s) (view q) k) r → MoveRight s live q k r
+  done-right : Done s live q (answer (compile s) (view q) k) r → MoveRight s live q k r
   done-right d = record {
     is = d .is;
     rule = demand (d .is);
@@ -92,7 +91,7 @@ move-call {b} f m = record {
 
 -- ---- An offer, by its first checks
 
-pub known-is : (s : Bytes) → modelOf s .known ≡ actions s
+pub known-is : (s : Bytes) → compile s .known ≡ actions s
 unfolding compile
 known-is s = refl
 
@@ -105,7 +104,7 @@ unfolding view
 view-numbered q = refl
 
 module _ {s : Bytes} {live : List ℕ} {q : State} (v : StateValid s live q) (c t : ℕ) where
-  offer-is : (x y z u : Bool) → ltb c (actions s) ≡ x → ltb maxDate t ≡ y → ltb t (q .date) ≡ z → leb maxNumbered (q .numbered) ≡ u → checked (modelOf s) (view q) c t x y z u ≡ answer (modelOf s) (view q) (offer c t)
+  offer-is : (x y z u : Bool) → ltb c (actions s) ≡ x → ltb maxDate t ≡ y → ltb t (q .date) ≡ z → leb maxNumbered (q .numbered) ≡ u → checked (compile s) (view q) c t x y z u ≡ answer (compile s) (view q) (offer c t)
   unfolding answer offered
   offer-is x y z u e f g h = rw (known-is, view-date, view-numbered, e, f, g, h)
 
@@ -126,16 +125,16 @@ module _ {s : Bytes} {live : List ℕ} {q : State} (v : StateValid s live q) (c 
   offer-unnumbered h k p n = done-right v (offer c t) _ (refused-done q S5 _ (v .sound) (offer-is true false false true (lt-ltb c (actions s) h) (le-ltb maxDate t k) (le-ltb t (q .date) p) (le-leb maxNumbered (q .numbered) n)))
 
   module _ (known : c < actions s) (early : t ≤ maxDate) (current : q .date ≤ t) (countable : q .numbered < maxNumbered) where
-    pub passed-is : checked (modelOf s) (view q) c t true false false false ≡ answer (modelOf s) (view q) (offer c t)
+    pub passed-is : checked (compile s) (view q) c t true false false false ≡ answer (compile s) (view q) (offer c t)
     passed-is = offer-is true false false false (lt-ltb c (actions s) known) (le-ltb maxDate t early) (le-ltb t (q .date) current) (lt-leb maxNumbered (q .numbered) countable)
 
-    pub offer-decided : {r : Moved} → Done s live q (checked (modelOf s) (view q) c t true false false false) r → MoveRight s live q (offer c t) r
+    pub offer-decided : {r : Moved} → Done s live q (checked (compile s) (view q) c t true false false false) r → MoveRight s live q (offer c t) r
     offer-decided {r} d = done-right v (offer c t) r (done-same d passed-is)
 
 -- ---- A collection, by its first checks
 
 module _ {s : Bytes} {live : List ℕ} {q : State} (v : StateValid s live q) (t : ℕ) where
-  collect-is : (y z : Bool) → ltb maxDate t ≡ y → ltb t (q .date) ≡ z → picked (modelOf s) (view q) t y z ≡ answer (modelOf s) (view q) (collect t)
+  collect-is : (y z : Bool) → ltb maxDate t ≡ y → ltb t (q .date) ≡ z → picked (compile s) (view q) t y z ≡ answer (compile s) (view q) (collect t)
   unfolding answer collected
   collect-is y z f g = rw (view-date, f, g)
 
@@ -147,7 +146,7 @@ module _ {s : Bytes} {live : List ℕ} {q : State} (v : StateValid s live q) (t 
   unfolding picked
   collect-past k p = done-right v (collect t) _ (refused-done q S1 _ (v .sound) (collect-is false true (le-ltb maxDate t k) (lt-ltb t (q .date) p)))
 
-  pub collect-played : {r : Moved} → t ≤ maxDate → q .date ≤ t → Done s live q (oldest (modelOf s) (view q) t (view q .schedule)) r → MoveRight s live q (collect t) r
+  pub collect-played : {r : Moved} → t ≤ maxDate → q .date ≤ t → Done s live q (oldest (compile s) (view q) t (view q .schedule)) r → MoveRight s live q (collect t) r
   unfolding picked
   collect-played {r} k p d = done-right v (collect t) r (done-same d (collect-is false false (le-ltb maxDate t k) (le-ltb t (q .date) p)))
 
@@ -193,7 +192,7 @@ module _ {s : Bytes} {live : List ℕ} {q : State} (v : StateValid s live q) whe
 
   pub lamp-same : (t : ℕ) → q .lit ≡ false → max t (q .last) ≡ max (q .date) (q .last) → false ≡ lampAt s q t
   unfolding view
-  lamp-same t e h = sym e ∙ lamp-stored ∙ ap (λ (n : ℕ). isLit (modelOf s) (advance (n - q .last) (located (q .location) (q .readings))) (actionsOf (view q .pending))) (sym h)
+  lamp-same t e h = sym e ∙ lamp-stored ∙ ap (λ (n : ℕ). isLit (compile s) (advance (n - q .last) (located (q .location) (q .readings))) (actionsOf (view q .pending))) (sym h)
 
   module _ (t : ℕ) (lit : q .lit ≡ true) (early : t ≤ maxDate) (current : q .date ≤ t) where
     not-dark : history.Dark a past → ⊥
@@ -204,20 +203,20 @@ module _ {s : Bytes} {live : List ℕ} {q : State} (v : StateValid s live q) whe
     pub lamp-later : true ≡ lampAt s q t
     unfolding Demand2All picked
     lamp-later =
-        let w : model.Answered = answer (modelOf s) (view q) (collect t) in
+        let w : model.Answered = answer (compile s) (view q) (collect t) in
         let d : Demand2 a past (collect t) w = demand-2 a (bounded s (v .sound .loads)) past (view q) (v .recorded .stands) (collect t) in
         sym (not-dark-lit (d .stands) (history-lit a past (d .history) (collect t ∷ []) (w .outcome ∷ []) not-dark (call (d .answers) end)))
         ∙ ap (λ (x : model.Answered). x .monitor .lit) (sym (collect-is v t false false (le-ltb maxDate t early) (le-ltb t (q .date) current)))
-        ∙ oldest-lit (modelOf s) (view q) t (view q .schedule)
+        ∙ oldest-lit (compile s) (view q) t (view q .schedule)
 
     -- An offer is dropped.
     pub offer-lit : (c : ℕ) → c < actions s → q .numbered < maxNumbered → MoveRight s live q (offer c t) (dropping q t true)
     unfolding checked view
     offer-lit c known countable =
         let i : Admitted a (view q) c t = record { known = known; early = early; current = current; countable = countable } in
-        let e : answer (modelOf s) (view q) (offer c t) .outcome ≡ dropped = exhausted-drops a (bounded s (v .sound .loads)) (view q) (record { history = past; stands = v .recorded .stands; not-dark = not-dark }) c t i in
+        let e : answer (compile s) (view q) (offer c t) .outcome ≡ dropped = exhausted-drops a (bounded s (v .sound .loads)) (view q) (record { history = past; stands = v .recorded .stands; not-dark = not-dark }) c t i in
         offer-decided v c t known early current countable
-        (dropped-done q t true _ (v .sound) early countable lamp-later (decided-dropped (modelOf s) (view q) c t _ _ (ap (λ (x : model.Answered). x .outcome) (passed-is v c t known early current countable) ∙ e)))
+        (dropped-done q t true _ (v .sound) early countable lamp-later (decided-dropped (compile s) (view q) c t _ _ (ap (λ (x : model.Answered). x .outcome) (passed-is v c t known early current countable) ∙ e)))
 
 -- ---- The lamp
 

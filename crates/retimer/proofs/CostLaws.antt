@@ -18,7 +18,6 @@ use Rattle.enforcement.specs.Model.{top, advance, Prospect, ticks, extensible, 
 use Rattle.enforcement.proofs.Loading.{bounded}
 use Rattle.enforcement.proofs.Equations.{AtMost, prospect-nil, prospect-most}
 use Rattle.enforcement.proofs.Optimum.{Within}
-use Rattle.retimer.specs.Optimum.{modelOf}
 use Rattle.retimer.specs.Steps.{One}
 use Rattle.retimer.specs.Waits.{saturation, along}
 use Rattle.retimer.specs.Next.{LeadsFor}
@@ -61,7 +60,7 @@ small-cost dead n h l = omega arith
 
 -- No cost is above never.
 pub cost-most : (s : Bytes) (cs : List ℕ) (k : ℕ) (q : Configuration) → length cs ≤ maxCount + 1 → costAt s (drop k cs) q ≤ never
-cost-most s cs k q h = small-cost (prospect (modelOf s) (drop k cs) q) (top * length (drop k cs)) (prospect-most (modelOf s) (drop k cs) q) (omega (arith, length-drop k cs))
+cost-most s cs k q h = small-cost (prospect (compile s) (drop k cs) q) (top * length (drop k cs)) (prospect-most (compile s) (drop k cs) q) (omega (arith, length-drop k cs))
 
 -- A cost below never is a number of ticks.
 pub cost-ticks : (a : Prospect) (v : ℕ) → v ≡ cost a → v < never → a ≡ ticks v
@@ -74,7 +73,7 @@ cost-ticks dead v e h = absurd (omega arith)
 -- Where all is played, the cost is 0 if the location is accepting.
 pub end-cost : (s : Bytes) (q : Configuration) → costAt s [] q ≡ cond (accepting s (q .location)) 0 never
 unfolding ended compile
-end-cost s q = ap cost (prospect-nil (modelOf s) q) ∙ go (accepting s (q .location)) (modelOf s .live q)
+end-cost s q = ap cost (prospect-nil (compile s) q) ∙ go (accepting s (q .location)) (compile s .live q)
   where
     go : (a b : Bool) → cost (cond a (ticks 0) (cond b extensible dead)) ≡ cond a 0 never
     go true b = refl
@@ -91,23 +90,23 @@ module _ (s : Bytes) (x y l : ℕ) (x-fits : x ≤ top) (y-fits : y ≤ top) (w 
   pub cost-leads : WellFormed s → (c : ℕ) (cs : List ℕ) (e : ℕ) → e ≤ saturation x y → EndsBy s (c ∷ cs) w e (along x y l e) ↔ One (LeadsFor c (EndsBy s cs w) x y e) (transitions s l)
   unfolding Bounded
   cost-leads loads c cs e k = (
-    λ m. one-map (transitions s l) (bounded s loads l) (λ t f v. (v .0, leads-map (λ u g. within-cost (prospect (modelOf s) cs (fire t (along x y 0 u))) u w w-small .0 g) (v .1))) (leads .0 (here .1 m)),
-    λ m. here .0 (leads .1 (one-map (transitions s l) (bounded s loads l) (λ t f v. (v .0, leads-map (λ u g. within-cost (prospect (modelOf s) cs (fire t (along x y 0 u))) u w w-small .1 g) (v .1))) m)),
+    λ m. one-map (transitions s l) (bounded s loads l) (λ t f v. (v .0, leads-map (λ u g. within-cost (prospect (compile s) cs (fire t (along x y 0 u))) u w w-small .0 g) (v .1))) (leads .0 (here .1 m)),
+    λ m. here .0 (leads .1 (one-map (transitions s l) (bounded s loads l) (λ t f v. (v .0, leads-map (λ u g. within-cost (prospect (compile s) cs (fire t (along x y 0 u))) u w w-small .1 g) (v .1))) m)),
   )
     where
-      here : Within w (prospect (modelOf s) (c ∷ cs) (along x y l e)) e ↔ EndsBy s (c ∷ cs) w e (along x y l e)
-      here = within-cost (prospect (modelOf s) (c ∷ cs) (along x y l e)) e w w-small
+      here : Within w (prospect (compile s) (c ∷ cs) (along x y l e)) e ↔ EndsBy s (c ∷ cs) w e (along x y l e)
+      here = within-cost (prospect (compile s) (c ∷ cs) (along x y l e)) e w w-small
 
-      leads : Within w (prospect (modelOf s) (c ∷ cs) (along x y l e)) e ↔ One (LeadsFor c (λ (u : ℕ) (q : Configuration). Within w (prospect (modelOf s) cs q) u) x y e) (transitions s l)
+      leads : Within w (prospect (compile s) (c ∷ cs) (along x y l e)) e ↔ One (LeadsFor c (λ (u : ℕ) (q : Configuration). Within w (prospect (compile s) cs q) u) x y e) (transitions s l)
       leads = prospect-leads (Within w) (within-timed w) s loads c cs start e (x-fits, y-fits) k
 
   -- What is reached later on a diagonal does not end sooner.
   pub cost-waits : (cs : List ℕ) (u v : ℕ) → u ≤ v → EndsBy s cs w v (along x y l v) → EndsBy s cs w u (along x y l u)
   cost-waits [] u v h m = let a = end-cost s (along x y l v) in let b = end-cost s (along x y l u) in omega arith
   cost-waits (c ∷ cs) u v h m =
-      let a = prospect-timed (Within w) (within-timed w) s c cs (along x y l v) v (omega arith, omega arith) .0 (within-cost (prospect (modelOf s) (c ∷ cs) (along x y l v)) v w w-small .1 m) in
+      let a = prospect-timed (Within w) (within-timed w) s c cs (along x y l v) v (omega arith, omega arith) .0 (within-cost (prospect (compile s) (c ∷ cs) (along x y l v)) v w w-small .1 m) in
       let n : ℕ = v - u + a .0 in
       let e : advance n (along x y l u) ≡ advance (a .0) (along x y l v) = advance-more u n start ∙ ap (λ (i : ℕ). advance i start) (let z : u + n ≡ v + a .0 = omega arith in z) ∙ sym (advance-more v (a .0) start) in
-      within-cost (prospect (modelOf s) (c ∷ cs) (along x y l u)) u w w-small .0
+      within-cost (prospect (compile s) (c ∷ cs) (along x y l u)) u w w-small .0
       (prospect-timed (Within w) (within-timed w) s c cs (along x y l u) u (omega arith, omega arith) .1
-      (n, a .1, ap (step s c) e ∙ a .2, subst (Within w (prospect (modelOf s) cs (a .1))) (let z : v + a .0 ≡ u + n = omega arith in z) (a .3)))
+      (n, a .1, ap (step s c) e ∙ a .2, subst (Within w (prospect (compile s) cs (a .1))) (let z : v + a .0 ≡ u + n = omega arith in z) (a .3)))

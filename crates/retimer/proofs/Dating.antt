@@ -9,13 +9,13 @@ use native.Mathlib.Omega.{arith}
 use lib.ListN.{length, getD, drop, set, length-drop}
 use Rattle.enforcement.specs.Automaton.{Bytes}
 use Rattle.enforcement.specs.TimedWord.{Configuration}
-use Rattle.enforcement.specs.Model.{top, ticks, afterStep, prospect}
+use Rattle.enforcement.specs.Model.{top, ticks, afterStep, prospect, compile}
 use Rattle.retimer.specs.declared.lookup.Stepped.{Stepped}
 use Rattle.retimer.specs.declared.optimum.Reached.{Reached}
 use Rattle.retimer.specs.declared.optimum.Ahead.{Ahead}
 use Rattle.retimer.specs.Readings.{waited, located, Standing}
 use Rattle.retimer.specs.Steps.{optional, StepRight}
-use Rattle.retimer.specs.Optimum.{modelOf, Asked, PlanRight}
+use Rattle.retimer.specs.Optimum.{Asked, PlanRight}
 use Rattle.retimer.specs.Costs.{never, cost, costAt, Known, Ground, Costed}
 use Rattle.retimer.specs.Dates.{playedNow, AheadRight, Dating, Written}
 use Rattle.retimer.proofs.Valuations.{standing-waited}
@@ -26,13 +26,13 @@ use Rattle.retimer.proofs.Walk.{left-after, written-played, not-full, s
 -- ---- Playing now
 
 module _ (s : Bytes) (cs : List ℕ) (k l : ℕ) (r : List ℕ) (v : Stepped) (h : StepRight s (getD cs k 0) l r v) where
-  stepped : (b : Bool) → v .found ≡ b → modelOf s .step (getD cs k 0) (located l r) ≡ optional b (located (v .location) (v .readings))
+  stepped : (b : Bool) → v .found ≡ b → compile s .step (getD cs k 0) (located l r) ≡ optional b (located (v .location) (v .readings))
   stepped b e = step-is s (getD cs k 0) (located l r) ∙ sym (h .is) ∙ ap (λ (b : Bool). optional b (located (v .location) (v .readings))) e
 
   -- It leads nowhere.
   pub ahead-none : {first second : List ℕ} → Ground s cs first second → v .found ≡ false → AheadRight s cs k l r first second (record { cost = never; location = v .location; readings = v .readings })
   ahead-none d e = record {
-    value-is = sym (ap (λ (o : Option Configuration). cost (afterStep o (prospect (modelOf s) (drop (k + 1) cs)))) (stepped false e));
+    value-is = sym (ap (λ (o : Option Configuration). cost (afterStep o (prospect (compile s) (drop (k + 1) cs)))) (stepped false e));
     leads = λ q. absurd (omega arith);
     standing = h .standing;
     ground = d;
@@ -40,7 +40,7 @@ module _ (s : Bytes) (cs : List ℕ) (k l : ℕ) (r : List ℕ) (v : Stepped) (h
 
   pub ahead-some : {first second : List ℕ} {n : ℕ} → Costed s cs first second (costAt s (drop (k + 1) cs) (located (v .location) (v .readings))) n → v .found ≡ true → AheadRight s cs k l r first second (record { cost = n; location = v .location; readings = v .readings })
   ahead-some d e = record {
-    value-is = d .value-is ∙ sym (ap (λ (o : Option Configuration). cost (afterStep o (prospect (modelOf s) (drop (k + 1) cs)))) (stepped true e));
+    value-is = d .value-is ∙ sym (ap (λ (o : Option Configuration). cost (afterStep o (prospect (compile s) (drop (k + 1) cs)))) (stepped true e));
     leads = λ q. stepped true e;
     standing = h .standing;
     ground = d .ground;
@@ -53,7 +53,7 @@ module _ {s : Bytes} {cs : List ℕ} {k l : ℕ} {r : List ℕ} {t v : ℕ} {fir
   dating-more = omega (arith, g .played)
 
   few-ticks : v < never
-  few-ticks = omega (arith, ticks-most (modelOf s) (drop k cs) (located l r) v (g .least), length-drop k cs, g .ground .few)
+  few-ticks = omega (arith, ticks-most (compile s) (drop k cs) (located l r) v (g .least), length-drop k cs, g .ground .few)
 
   module _ {first second : List ℕ} {a : Ahead} (h : AheadRight s cs k l r first second a) where
     -- Playing now keeps the least ticks.
@@ -61,7 +61,7 @@ module _ {s : Bytes} {cs : List ℕ} {k l : ℕ} {r : List ℕ} {t v : ℕ} {fir
       now : playedNow s cs k (located l r) ≡ ticks v
       now = cost-ticks (playedNow s cs k (located l r)) v (sym keeps ∙ h .value-is) few-ticks
 
-      found : modelOf s .step (getD cs k 0) (located l r) ≡ some (located (a .location) (a .readings))
+      found : compile s .step (getD cs k 0) (located l r) ≡ some (located (a .location) (a .readings))
       found = h .leads (omega (arith, few-ticks))
 
       pub dating-played : Dating s cs (k + 1) (a .location) (a .readings) t v first second out
@@ -108,7 +108,7 @@ module _ {s cs : List ℕ} {l : ℕ} {r : List ℕ} {t : ℕ} {out : List ℕ} (
   plan-ground f g = record { loads = a .loads; few = a .few; after-first = f; after-second = g }
 
   module _ {first second : List ℕ} {v : ℕ} (f : Costed s cs first second (costAt s (drop 0 cs) (located l r)) v) where
-    least-is : prospect (modelOf s) cs (located l r) ≡ ticks v
+    least-is : prospect (compile s) cs (located l r) ≡ ticks v
     least-is = let e = a .correctable .1 in e ∙ ap ticks (sym (f .value-is ∙ ap cost e))
 
     -- The dates start with the least ticks.
@@ -118,7 +118,7 @@ module _ {s cs : List ℕ} {l : ℕ} {r : List ℕ} {t : ℕ} {out : List ℕ} (
       played = omega arith;
       standing = a .standing;
       least = least-is;
-      early = omega (arith, a .early, a .few, ticks-most (modelOf s) cs (located l r) v least-is);
+      early = omega (arith, a .early, a .few, ticks-most (compile s) cs (located l r) v least-is);
       room = a .room;
     }
 

@@ -14,13 +14,13 @@ use Rattle.enforcement.specs.Automaton.{Bytes}
 use Rattle.enforcement.specs.TimedWord.{Configuration}
 use Rattle.enforcement.specs.Reason.{S-3}
 use Rattle.enforcement.specs.History.{actionsOf, dropped}
-use Rattle.enforcement.specs.Model.{Prospect, ticks, extensible, dead, top, Compiled, prospect, dates, advance}
+use Rattle.enforcement.specs.Model.{Prospect, ticks, extensible, dead, top, Compiled, prospect, dates, advance, compile}
 use Rattle.enforcement.specs.Monitor.{same, dated, joins, earliest, standing, walk, placed, kept, decided, checked, isDead, isLit}
 use Rattle.enforcement.specs.Monitor as model
 use Rattle.retimer.specs.declared.limits.State.{State}
 use Rattle.retimer.specs.declared.optimum.Planned.{Planned}
 use Rattle.retimer.specs.Readings.{waited, located}
-use Rattle.retimer.specs.Optimum.{modelOf, Asked, PlanRight, LampAsked}
+use Rattle.retimer.specs.Optimum.{Asked, PlanRight, LampAsked}
 use Rattle.retimer.specs.View.{pendingOf, view, StateSound}
 use Rattle.retimer.specs.Calls.{lampWith, lampAt, lastAction, newDates, decidedOf, CorrectAsked, PlaceAsked, placedOf}
 use Rattle.retimer.proofs.Valuations.{located-waited, standing-waited}
@@ -67,9 +67,9 @@ pub lamp-asked : {s : Bytes} {live : List ℕ} (q : State) (n : ℕ) (here : Lis
 lamp-asked {s} q n here f e = record { loads = f .loads; table = f .table; standing = rw e (standing-waited s (q .location) n (q .readings) (f .standing)) }
 
 pub lamp-as : (s : Bytes) (q : State) (t start : ℕ) (here : List ℕ) (x : Bool) → start ≡ max t (q .last) → here ≡ waited (start - q .last) (q .readings)
-    → x ≡ isLit (modelOf s) (located (q .location) here) (actionsOf (pendingOf q)) → x ≡ lampAt s q t
+    → x ≡ isLit (compile s) (located (q .location) here) (actionsOf (pendingOf q)) → x ≡ lampAt s q t
 unfolding view
-lamp-as s q t start here x e f g = g ∙ ap (λ (p : Configuration). isLit (modelOf s) p (actionsOf (pendingOf q))) (standing-is q t start here e f)
+lamp-as s q t start here x e f g = g ∙ ap (λ (p : Configuration). isLit (compile s) p (actionsOf (pendingOf q))) (standing-is q t start here e f)
 
 -- ---- What an offer has worked out before it decides
 
@@ -85,7 +85,7 @@ pub record Worked (s : Bytes) (live : List ℕ) (q : State) (c t start : ℕ) (h
 module _ {s : Bytes} {live : List ℕ} {q : State} {c t start : ℕ} {here cs : List ℕ} (w : Worked s live q c t start here cs) where
   -- The prospect that decides.
   abbrev pub found : Prospect
-  found = prospect (modelOf s) (take (q .held + 1) cs) (located (q .location) here)
+  found = prospect (compile s) (take (q .held + 1) cs) (located (q .location) here)
 
   few : length (take (q .held + 1) cs) ≡ q .held + 1
   few = length-take-le (q .held + 1) cs (omega (arith, w .sized, w .sound .held-fits))
@@ -101,41 +101,41 @@ module _ {s : Bytes} {live : List ℕ} {q : State} {c t start : ℕ} {here cs : 
       sym (getD-take (q .held + 1) cs (q .held) 0 (omega arith)) ∙ ap (λ (l : List ℕ). getD l (q .held) 0) (w .joined)
       ∙ getD-at (actionsOf (pendingOf q)) c [] 0 (q .held) (pending-actions q (w .sound))
 
-  prospect-is : found ≡ prospect (modelOf s) (actionsOf (joins (view q) c t)) (standing (view q) t)
-  prospect-is = ap₂ (prospect (modelOf s)) actions-are here-stands
+  prospect-is : found ≡ prospect (compile s) (actionsOf (joins (view q) c t)) (standing (view q) t)
+  prospect-is = ap₂ (prospect (compile s)) actions-are here-stands
 
-  decides : (x : Prospect) → found ≡ x → decided (modelOf s) (view q) c t (dates (modelOf s) (actionsOf (joins (view q) c t))) x ≡ decidedOf s q c t
-  decides x e = decided-is (modelOf s) (view q) c t x (sym prospect-is ∙ e)
+  decides : (x : Prospect) → found ≡ x → decided (compile s) (view q) c t (dates (compile s) (actionsOf (joins (view q) c t))) x ≡ decidedOf s q c t
+  decides x e = decided-is (compile s) (view q) c t x (sym prospect-is ∙ e)
 
   -- Case 1: what it is given.
   pub correct-asked : (n : ℕ) → found ≡ ticks n → CorrectAsked s live q t cs start here
   correct-asked n e = record { sound = w .sound; early = w .early; countable = w .countable; start-is = w .start-is; here-is = w .here-is; joined = rw last-is (w .joined); correctable = (n, e) }
 
   -- Case 2.
-  pub hold-is : found ≡ extensible → kept (modelOf s) (view q) c t (leb maxCount (length (view q .pending))) ≡ decidedOf s q c t
+  pub hold-is : found ≡ extensible → kept (compile s) (view q) c t (leb maxCount (length (view q .pending))) ≡ decidedOf s q c t
   unfolding decided
   hold-is e = decides extensible e
 
   -- What is held is not dead, so the lamp is dark.
   pub hold-dark : found ≡ extensible → lampWith s q t (actionsOf (joins (view q) c t)) ≡ false
-  hold-dark e = sym (lit-some (modelOf s) (standing (view q) t) (actionsOf (joins (view q) c t)) false (λ z. omega (arith, few, ap length actions-are, z)) (ap isDead (sym e ∙ prospect-is)))
+  hold-dark e = sym (lit-some (compile s) (standing (view q) t) (actionsOf (joins (view q) c t)) false (λ z. omega (arith, few, ap length actions-are, z)) (ap isDead (sym e ∙ prospect-is)))
 
   -- Case 3.
-  pub drop-is : found ≡ dead → answering dropped (dated (modelOf s) (view q) t (suc (view q .numbered))) ≡ decidedOf s q c t
+  pub drop-is : found ≡ dead → answering dropped (dated (compile s) (view q) t (suc (view q .numbered))) ≡ decidedOf s q c t
   unfolding decided
   drop-is e = decides dead e
 
   -- The lamp is that of the actions without the last.
-  pub drop-lamp : (x : Bool) → x ≡ isLit (modelOf s) (located (q .location) here) (frontOf (take (q .held + 1) cs)) → x ≡ lampAt s q t
-  drop-lamp x e = lamp-as s q t start here x (w .start-is) (w .here-is) (e ∙ ap (isLit (modelOf s) (located (q .location) here)) (ap frontOf (w .joined) ∙ front-of (actionsOf (pendingOf q)) c))
+  pub drop-lamp : (x : Bool) → x ≡ isLit (compile s) (located (q .location) here) (frontOf (take (q .held + 1) cs)) → x ≡ lampAt s q t
+  drop-lamp x e = lamp-as s q t start here x (w .start-is) (w .here-is) (e ∙ ap (isLit (compile s) (located (q .location) here)) (ap frontOf (w .joined) ∙ front-of (actionsOf (pendingOf q)) c))
 
   -- Case 1, with a correction of n ticks.
   module _ {n : ℕ} (e : found ≡ ticks n) where
     ends-by : n ≤ top * (q .held + 1)
-    ends-by = rw few at (ticks-most (modelOf s) (take (q .held + 1) cs) (located (q .location) here) n e)
+    ends-by = rw few at (ticks-most (compile s) (take (q .held + 1) cs) (located (q .location) here) n e)
 
     placing : ℕ → List ℕ → ℕ → model.Answered
-    placing x l last = placed (modelOf s) (view q) x t l last (ltb maxDate last) (ltb (maxScheduled - length (view q .schedule)) (length (joins (view q) x t)))
+    placing x l last = placed (compile s) (view q) x t l last (ltb maxDate last) (ltb (maxScheduled - length (view q .schedule)) (length (joins (view q) x t)))
 
     -- Where there is no room, and the last date can't be passed.
     pub crowded-is : start + (maxCount + 1) * top ≤ maxDate → maxScheduled - q .planned < q .held + 1 → same (view q) S-3 ≡ decidedOf s q c t
@@ -148,19 +148,19 @@ module _ {s : Bytes} {live : List ℕ} {q : State} {c t start : ℕ} {here cs : 
       value-is : p .value ≡ n
       value-is = let f = planned .value-is in (let z : p .value ≡ n = cc in z)
 
-      dates-as-planned : newDates q ds ≡ dates (modelOf s) (take (q .held + 1) cs) (located (q .location) here) start
+      dates-as-planned : newDates q ds ≡ dates (compile s) (take (q .held + 1) cs) (located (q .location) here) start
       dates-as-planned = rw few at (planned .dates-are)
 
-      dates-are : newDates q ds ≡ dates (modelOf s) (actionsOf (joins (view q) c t)) (standing (view q) t) (earliest (view q) t)
+      dates-are : newDates q ds ≡ dates (compile s) (actionsOf (joins (view q) c t)) (standing (view q) t) (earliest (view q) t)
       dates-are =
-          dates-as-planned ∙ ap (λ (l : List ℕ). dates (modelOf s) l (located (q .location) here) start) actions-are
-          ∙ ap₂ (dates (modelOf s) (actionsOf (joins (view q) c t))) here-stands (earliest-is q t start (w .start-is))
+          dates-as-planned ∙ ap (λ (l : List ℕ). dates (compile s) l (located (q .location) here) start) actions-are
+          ∙ ap₂ (dates (compile s) (actionsOf (joins (view q) c t))) here-stands (earliest-is q t start (w .start-is))
 
-      reached-as-planned : located (p .location) (p .readings) ≡ walk (modelOf s .step) (actionsOf (joins (view q) (lastAction q cs) t)) (newDates q ds) (earliest (view q) t) (standing (view q) t)
+      reached-as-planned : located (p .location) (p .readings) ≡ walk (compile s .step) (actionsOf (joins (view q) (lastAction q cs) t)) (newDates q ds) (earliest (view q) t) (standing (view q) t)
       reached-as-planned =
           planned .reached
-          ∙ ap₂ (λ (l d : List ℕ). walk (modelOf s .step) l d start (located (q .location) here)) (actions-are ∙ ap (λ (x : ℕ). actionsOf (joins (view q) x t)) (sym last-is)) (sym dates-as-planned)
-          ∙ ap₂ (walk (modelOf s .step) (actionsOf (joins (view q) (lastAction q cs) t)) (newDates q ds)) (earliest-is q t start (w .start-is)) here-stands
+          ∙ ap₂ (λ (l d : List ℕ). walk (compile s .step) l d start (located (q .location) here)) (actions-are ∙ ap (λ (x : ℕ). actionsOf (joins (view q) x t)) (sym last-is)) (sym dates-as-planned)
+          ∙ ap₂ (walk (compile s .step) (actionsOf (joins (view q) (lastAction q cs) t)) (newDates q ds)) (earliest-is q t start (w .start-is)) here-stands
 
       pub place-asked : PlaceAsked s live q t cs ds (start + p .value) (p .location) (p .readings)
       place-asked = record { sound = w .sound; early = w .early; countable = w .countable; ordered = omega (arith, w .start-is); joined = rw last-is (w .joined); stands = planned .standing; reached = reached-as-planned }

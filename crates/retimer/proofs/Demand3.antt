@@ -8,6 +8,7 @@ use Prim.Native.Nat.{ℕ}
 use Rattle.enforcement.specs.Automaton.{Bytes, automaton}
 use Rattle.enforcement.specs.Loading.{WellFormed}
 use Rattle.enforcement.specs.History.{History, fresh, Call, offer, lamp, Outcome, scheduled, held, dropped, played, nothing, lit, dark, refused, HistoryOf, Schedulable}
+use Rattle.enforcement.specs.Model.{compile}
 use Rattle.enforcement.specs.Monitor.{freshMonitor, answer, replay}
 use Rattle.enforcement.specs.Monitor as model
 use Rattle.enforcement.specs.Demands.{StandsFor, Demand2, ModelDemand3, ModelDemand3All, Admitted, calls, lampAfter}
@@ -18,7 +19,6 @@ use Rattle.retimer.specs.declared.limits.Monitor.{Monitor}
 use Rattle.retimer.specs.declared.state.Answer.{Answer}
 use Rattle.retimer.specs.declared.state.Answer.the-variants.{Scheduled, Held, Dropped, Played, Nothing, Lit, Dark, Refused}
 use Rattle.retimer.specs.declared.monitor.Answered.{Answered}
-use Rattle.retimer.specs.Optimum.{modelOf}
 use Rattle.retimer.specs.View.{bytesOf, view, viewOf, Valid}
 use Rattle.retimer.specs.Calls.{outcomeOf, answeredOf, CallRight, FreshRight}
 use Rattle.retimer.specs.Demand3.{Made, end, call, outcomesOf, CodeDemand3}
@@ -28,8 +28,8 @@ use Rattle.retimer.proofs.CallLaws.{view-lit}
 
 -- What a list of calls made of a box of the sheet s comes to.
 record Follows (s : Bytes) (b : Monitor) (ks : List Call) (xs : List Answer) (b′ : Monitor) : Type 0 where
-  monitor-is : viewOf b′ ≡ replay (modelOf s) (viewOf b) ks .monitor
-  outcomes-are : outcomesOf xs ≡ replay (modelOf s) (viewOf b) ks .outcomes
+  monitor-is : viewOf b′ ≡ replay (compile s) (viewOf b) ks .monitor
+  outcomes-are : outcomesOf xs ≡ replay (compile s) (viewOf b) ks .outcomes
   sheet-is : bytesOf b′ ≡ s
   valid : Valid b′
 
@@ -38,11 +38,11 @@ unfolding replay
 made-follows s e v end = record { monitor-is = refl; outcomes-are = refl; sheet-is = e; valid = v }
 made-follows {b} {b′} s e v (call {k = k} {ks = ks} {xs = xs} r c m) =
     let f : Follows s (r .monitor) ks xs b′ = made-follows s (ap bytesOf (c .kept) ∙ e) (c .valid) m in
-    let w : answeredOf r ≡ answer (modelOf s) (viewOf b) k = subst (λ (x : Bytes). answeredOf r ≡ answer (modelOf x) (viewOf b) k) e (c .is) in
-    let z : viewOf (r .monitor) ≡ answer (modelOf s) (viewOf b) k .monitor = ap (λ (x : model.Answered). x .monitor) w in
+    let w : answeredOf r ≡ answer (compile s) (viewOf b) k = subst (λ (x : Bytes). answeredOf r ≡ answer (compile x) (viewOf b) k) e (c .is) in
+    let z : viewOf (r .monitor) ≡ answer (compile s) (viewOf b) k .monitor = ap (λ (x : model.Answered). x .monitor) w in
     record {
-      monitor-is = f .monitor-is ∙ ap (λ (x : model.Monitor). replay (modelOf s) x ks .monitor) z;
-      outcomes-are = ap₂ (λ (o : Outcome) (os : List Outcome). o ∷ os) (ap (λ (x : model.Answered). x .outcome) w) (f .outcomes-are ∙ ap (λ (x : model.Monitor). replay (modelOf s) x ks .outcomes) z);
+      monitor-is = f .monitor-is ∙ ap (λ (x : model.Monitor). replay (compile s) x ks .monitor) z;
+      outcomes-are = ap₂ (λ (o : Outcome) (os : List Outcome). o ∷ os) (ap (λ (x : model.Answered). x .outcome) w) (f .outcomes-are ∙ ap (λ (x : model.Monitor). replay (compile s) x ks .outcomes) z);
       sheet-is = f .sheet-is;
       valid = f .valid;
     }
@@ -118,16 +118,16 @@ module _ (s : Bytes) (d : ℕ) (b₀ : Monitor) (f : FreshRight s d b₀) (ks : 
   now = made-follows s (f .sheet) (f .valid) m
 
   monitor-is : viewOf b ≡ calls (automaton s d) ks .monitor
-  monitor-is = now .monitor-is ∙ ap (λ (x : model.Monitor). replay (modelOf s) x ks .monitor) fresh-view
+  monitor-is = now .monitor-is ∙ ap (λ (x : model.Monitor). replay (compile s) x ks .monitor) fresh-view
 
   outcomes-are : outcomesOf xs ≡ calls (automaton s d) ks .outcomes
-  outcomes-are = now .outcomes-are ∙ ap (λ (x : model.Monitor). replay (modelOf s) x ks .outcomes) fresh-view
+  outcomes-are = now .outcomes-are ∙ ap (λ (x : model.Monitor). replay (compile s) x ks .outcomes) fresh-view
 
   -- The box after more calls.
   after-more : (more : List Call) (ys : List Answer) (b′ : Monitor) → Made b more ys b′ → (viewOf b′ ≡ calls (automaton s d) (ks ++ more) .monitor) × (bytesOf b′ ≡ s)
   after-more more ys b′ n =
       let g : Follows s b more ys b′ = made-follows s (now .sheet-is) (now .valid) n in
-      (g .monitor-is ∙ ap (λ (x : model.Monitor). replay (modelOf s) x more .monitor) monitor-is ∙ sym (replay-append (modelOf s) ks more (freshMonitor (automaton s d))), g .sheet-is)
+      (g .monitor-is ∙ ap (λ (x : model.Monitor). replay (compile s) x more .monitor) monitor-is ∙ sym (replay-append (compile s) ks more (freshMonitor (automaton s d))), g .sheet-is)
 
   lit-now : b .state .lit ≡ lampAfter (automaton s d) ks
   lit-now = view-lit (b .state) monitor-is
@@ -136,7 +136,7 @@ module _ (s : Bytes) (d : ℕ) (b₀ : Monitor) (f : FreshRight s d b₀) (ks : 
   all-dropped e more ys b′ n c t i q w =
       let g = after-more more ys b′ n in
       answer-of (q .answer) dropped
-      (ap (λ (x : model.Answered). x .outcome) (w .is) ∙ ap₂ (λ (x : Bytes) (v : model.Monitor). answer (modelOf x) v (offer c t) .outcome) (g .1) (g .0)
+      (ap (λ (x : model.Answered). x .outcome) (w .is) ∙ ap₂ (λ (x : Bytes) (v : model.Monitor). answer (compile x) v (offer c t) .outcome) (g .1) (g .0)
       ∙ model-right ks .drops (sym lit-now ∙ e) more c t (subst (λ (v : model.Monitor). Admitted (automaton s d) v c t) (g .0) i))
 
   pub code-demand-3 : CodeDemand3 s d ks xs b

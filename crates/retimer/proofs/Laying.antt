@@ -11,10 +11,9 @@ use Rattle.enforcement.specs.Limits.{maxCount}
 use Rattle.enforcement.specs.Automaton.{Bytes, Transition, transitions}
 use Rattle.enforcement.specs.TimedWord.{Configuration, fire, step}
 use Rattle.enforcement.specs.Loading.{WellFormed, Bounded}
-use Rattle.enforcement.specs.Model.{top, advance, prospect}
+use Rattle.enforcement.specs.Model.{top, advance, prospect, compile}
 use Rattle.enforcement.proofs.Loading.{bounded}
 use Rattle.enforcement.proofs.Optimum.{Within}
-use Rattle.retimer.specs.Optimum.{modelOf}
 use Rattle.retimer.specs.Steps.{One}
 use Rattle.retimer.specs.Costs.{never, costAt, configuration, EndsBy}
 use Rattle.retimer.specs.Layers.{tick, Now, NowOne, cellOf, cell, Small, Ticked, AtOnce, Laid}
@@ -41,23 +40,23 @@ module _ (s : Bytes) (loads : WellFormed s) (c : ℕ) (cs : List ℕ) (l : ℕ) 
     unfolding Bounded
     now-or-later = (to, from)
       where
-        at-once : EndsBy s (c ∷ cs) w 0 here ↔ ((u : ℕ) × (q : Configuration) × (step s c (advance u here) ≡ some q) × Within w (prospect (modelOf s) cs q) (0 + u))
-        at-once = let a = prospect-timed (Within w) (within-timed w) s c cs here 0 (x-fits, y-fits) in let b = within-cost (prospect (modelOf s) (c ∷ cs) here) 0 w w-small in (λ m. a .0 (b .1 m), λ v. b .0 (a .1 v))
+        at-once : EndsBy s (c ∷ cs) w 0 here ↔ ((u : ℕ) × (q : Configuration) × (step s c (advance u here) ≡ some q) × Within w (prospect (compile s) cs q) (0 + u))
+        at-once = let a = prospect-timed (Within w) (within-timed w) s c cs here 0 (x-fits, y-fits) in let b = within-cost (prospect (compile s) (c ∷ cs) here) 0 w w-small in (λ m. a .0 (b .1 m), λ v. b .0 (a .1 v))
 
-        later : EndsBy s (c ∷ cs) w 1 next ↔ ((u : ℕ) × (q : Configuration) × (step s c (advance u next) ≡ some q) × Within w (prospect (modelOf s) cs q) (1 + u))
-        later = let a = prospect-timed (Within w) (within-timed w) s c cs next 1 (omega arith, omega arith) in let b = within-cost (prospect (modelOf s) (c ∷ cs) next) 1 w w-small in (λ m. a .0 (b .1 m), λ v. b .0 (a .1 v))
+        later : EndsBy s (c ∷ cs) w 1 next ↔ ((u : ℕ) × (q : Configuration) × (step s c (advance u next) ≡ some q) × Within w (prospect (compile s) cs q) (1 + u))
+        later = let a = prospect-timed (Within w) (within-timed w) s c cs next 1 (omega arith, omega arith) in let b = within-cost (prospect (compile s) (c ∷ cs) next) 1 w w-small in (λ m. a .0 (b .1 m), λ v. b .0 (a .1 v))
 
         plain : EndsBy s (c ∷ cs) w 0 here → costAt s (c ∷ cs) here ≤ w
         plain m = omega arith
 
-        split : (u : ℕ) (q : Configuration) → step s c (advance u here) ≡ some q → Within w (prospect (modelOf s) cs q) (0 + u) → NowOne s c cs l x y w ⊎ EndsBy s (c ∷ cs) w 1 next
+        split : (u : ℕ) (q : Configuration) → step s c (advance u here) ≡ some q → Within w (prospect (compile s) cs q) (0 + u) → NowOne s c cs l x y w ⊎ EndsBy s (c ∷ cs) w 1 next
         split zero q e g =
-            let v : costAt s cs q ≤ w = let z = within-cost (prospect (modelOf s) cs q) 0 w w-small .0 g in omega arith in
+            let v : costAt s cs q ≤ w = let z = within-cost (prospect (compile s) cs q) 0 w w-small .0 g in omega arith in
             inl (one-map (transitions s l) (bounded s loads l) (λ t f a. (a .0, (a .1, subst (λ (r : Configuration). costAt s cs r ≤ w) (sym (a .2)) v)))
             (step-one s loads c here q .0 (ap (step s c) (sym (advance-none here (x-fits, y-fits))) ∙ e)))
         split (suc u) q e g =
             let z : 1 + u ≡ suc u = omega arith in
-            inr (later .1 (u, q, ap (step s c) (advance-more 1 u here ∙ ap (λ (n : ℕ). advance n here) z) ∙ e, subst (Within w (prospect (modelOf s) cs q)) (let z : 0 + suc u ≡ 1 + u = omega arith in z) g))
+            inr (later .1 (u, q, ap (step s c) (advance-more 1 u here ∙ ap (λ (n : ℕ). advance n here) z) ∙ e, subst (Within w (prospect (compile s) cs q)) (let z : 0 + suc u ≡ 1 + u = omega arith in z) g))
 
         to : costAt s (c ∷ cs) here ≤ w → NowOne s c cs l x y w ⊎ EndsBy s (c ∷ cs) w 1 next
         to m = let v = at-once .0 (omega arith) in split (v .0) (v .1) (v .2) (v .3)
@@ -65,10 +64,10 @@ module _ (s : Bytes) (loads : WellFormed s) (c : ℕ) (cs : List ℕ) (l : ℕ) 
         from : NowOne s c cs l x y w ⊎ EndsBy s (c ∷ cs) w 1 next → costAt s (c ∷ cs) here ≤ w
         from (inl o) =
             let r = some-now x y w (transitions s l) o in
-            plain (at-once .1 (0, r .0, ap (step s c) (advance-none here (x-fits, y-fits)) ∙ step-one s loads c here (r .0) .1 (r .1), within-cost (prospect (modelOf s) cs (r .0)) 0 w w-small .1 (omega (arith, r .2))))
+            plain (at-once .1 (0, r .0, ap (step s c) (advance-none here (x-fits, y-fits)) ∙ step-one s loads c here (r .0) .1 (r .1), within-cost (prospect (compile s) cs (r .0)) 0 w w-small .1 (omega (arith, r .2))))
         from (inr m) =
             let v = later .0 m in
-            plain (at-once .1 (1 + v .0, v .1, ap (step s c) (sym (advance-more 1 (v .0) here)) ∙ v .2, subst (Within w (prospect (modelOf s) cs (v .1))) (let z : 1 + v .0 ≡ 0 + (1 + v .0) = omega arith in z) (v .3)))
+            plain (at-once .1 (1 + v .0, v .1, ap (step s c) (sym (advance-more 1 (v .0) here)) ∙ v .2, subst (Within w (prospect (compile s) cs (v .1))) (let z : 1 + v .0 ≡ 0 + (1 + v .0) = omega arith in z) (v .3)))
 
   -- ---- Tables
 

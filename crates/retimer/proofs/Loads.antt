@@ -14,7 +14,7 @@ use Rattle.enforcement.specs.Loading.{Loads, WellFormed, check}
 use Rattle.enforcement.specs.Reason as model-reason
 use Rattle.enforcement.specs.Loading as loading
 use Rattle.enforcement.specs.History.{fresh, end}
-use Rattle.enforcement.specs.Model.{top, oneClock}
+use Rattle.enforcement.specs.Model.{top, oneClock, compile}
 use Rattle.enforcement.specs.Monitor.{isLit, lampLit, withLamp, freshMonitor}
 use Rattle.enforcement.specs.Monitor as model
 use Rattle.enforcement.specs.Demands.{StandsFor}
@@ -28,7 +28,7 @@ use Rattle.retimer.specs.declared.sheet.Checked.the-variants.{Accepted, 
 use Rattle.retimer.specs.Reasons.{reasonOf}
 use Rattle.retimer.specs.Checked.{figuresOf, checkedOf}
 use Rattle.retimer.specs.Readings.{located, Standing}
-use Rattle.retimer.specs.Optimum.{modelOf, LampAsked}
+use Rattle.retimer.specs.Optimum.{LampAsked}
 use Rattle.retimer.specs.Live.{LiveTable}
 use Rattle.retimer.specs.View.{view, viewOf}
 use Rattle.retimer.specs.Calls.{initialState, FreshRight}
@@ -81,18 +81,18 @@ module _ (s : Bytes) (d : ℕ) (b : Bytes) (live : List ℕ) (y : ℕ) (lit : Bo
   early : d ≤ maxDate
   early = loads-is s d .0 loads .1
 
-  fresh-view : lit ≡ isLit (modelOf s) (located (initial s) (0 ∷ y ∷ [])) [] → viewOf (madeOf s d b live y lit) ≡ freshMonitor (automaton s d)
+  fresh-view : lit ≡ isLit (compile s) (located (initial s) (0 ∷ y ∷ [])) [] → viewOf (madeOf s d b live y lit) ≡ freshMonitor (automaton s d)
   unfolding view lampLit
-  fresh-view none = ap (λ (x : Bool). viewAt y x) none ∙ ap (λ (n : ℕ). viewAt n (isLit (modelOf s) (located (initial s) (0 ∷ n ∷ [])) [])) second ∙ go (oneClock s)
+  fresh-view none = ap (λ (x : Bool). viewAt y x) none ∙ ap (λ (n : ℕ). viewAt n (isLit (compile s) (located (initial s) (0 ∷ n ∷ [])) [])) second ∙ go (oneClock s)
     where
       viewAt : ℕ → Bool → model.Monitor
       viewAt n x = record { date = d; pending = []; schedule = []; configuration = record { location = initial s; x = 0; y = n }; last = d; numbered = 0; lit = x }
 
-      go : (one : Bool) → viewAt (cond one top 0) (isLit (modelOf s) (located (initial s) (0 ∷ cond one top 0 ∷ [])) []) ≡ withLamp (modelOf s) (viewAt (cond one top (min 0 top)) false)
+      go : (one : Bool) → viewAt (cond one top 0) (isLit (compile s) (located (initial s) (0 ∷ cond one top 0 ∷ [])) []) ≡ withLamp (compile s) (viewAt (cond one top (min 0 top)) false)
       go true = let z : max d d - d ≡ 0 = omega arith in rw z
       go false = let z : max d d - d ≡ 0 = omega arith in rw z
 
-  pub fresh-right : length b ≡ maxSize → LiveTable s live → lit ≡ isLit (modelOf s) (located (initial s) (0 ∷ y ∷ [])) [] → FreshRight s d (madeOf s d b live y lit)
+  pub fresh-right : length b ≡ maxSize → LiveTable s live → lit ≡ isLit (compile s) (located (initial s) (0 ∷ y ∷ [])) [] → FreshRight s d (madeOf s d b live y lit)
   fresh-right n t none =
       let v : viewOf (madeOf s d b live y lit) ≡ freshMonitor (automaton (take (length s) b) d) = rw front (fresh-view none) in
       let w : StandsFor (automaton (take (length s) b) d) (viewOf (madeOf s d b live y lit)) (fresh (automaton (take (length s) b) d)) =

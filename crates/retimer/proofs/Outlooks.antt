@@ -15,7 +15,7 @@ use borrow.Author.Tests.{eq-eqb}
 use Rattle.enforcement.specs.Automaton.{Bytes, word, accepting, clocks}
 use Rattle.enforcement.specs.Loading.{WellFormed}
 use Rattle.enforcement.specs.TimedWord.{Configuration}
-use Rattle.enforcement.specs.Model.{top, Prospect, ticks, extensible, dead, prospect}
+use Rattle.enforcement.specs.Model.{top, Prospect, ticks, extensible, dead, prospect, compile}
 use Rattle.enforcement.specs.Monitor.{isDead, isLit}
 use Rattle.enforcement.proofs.Bits.{none-in, in-and, some-in}
 use Rattle.retimer.specs.declared.outlook.Outlook.{Outlook}
@@ -23,7 +23,6 @@ use Rattle.retimer.specs.declared.outlook.Outlook.the-variants.{Correct,
 use Rattle.retimer.specs.Counts.{counted}
 use Rattle.retimer.specs.Meeting.{Meets}
 use Rattle.retimer.specs.Live.{LiveTable}
-use Rattle.retimer.specs.Optimum.{modelOf}
 use Rattle.retimer.specs.Sets.{height, Contains, Reached, Played, Elapsed, Single}
 use Rattle.retimer.specs.Outlook.{outlookOf, frontOf, Ends, Lives, Some, SomeLive, OutlookBy, Rated, RatedLast}
 use Rattle.retimer.proofs.ProspectKinds.{Kind, ends-kind, lives-kind, advance-none, prospect-kind}
@@ -55,7 +54,7 @@ live-met {s} {live} {set} t r = (λ w. (w .0, w .1, sym (same (w .0) (w .1)) ∙
     saturated : (q : Configuration) (m : Contains s set q) → clocks s ≡ 1 → q .y ≡ top
     saturated q m e = let h : height s ≡ 1 = rw (eq-eqb (clocks s) 1 e) refl in omega (arith, m .reads, m .inside)
 
-    same : (q : Configuration) → Contains s set q → counted live (q .location) (q .x) (q .y) ≡ modelOf s .live q
+    same : (q : Configuration) → Contains s set q → counted live (q .location) (q .x) (q .y) ≡ compile s .live q
     same q m =
         let k = contains-readings (r .whole) m in
         t .right (q .location) (q .x ∷ q .y ∷ []) (record { in-sheet = reached-known r m; readings = record { two = refl; first = k .0; second = k .1 }; one-clock = saturated q m })
@@ -88,7 +87,7 @@ module _ (s : Bytes) (loads : WellFormed s) {set : List ℕ} {places : ℕ} (r :
   -- There is one just when there is one after any wait.
   live-elapsed : {new : List ℕ} → Elapsed s set new places → SomeLive s new ↔ SomeLive s set
   live-elapsed a = (
-    λ w. let d = a .right (w .0) .0 (w .1) in (d .0, d .2, sooner-live s loads (d .1) (d .0) (contains-readings (r .whole) (d .2)) (subst (λ (q : Configuration). modelOf s .live q ≡ true) (d .3) (w .2))),
+    λ w. let d = a .right (w .0) .0 (w .1) in (d .0, d .2, sooner-live s loads (d .1) (d .0) (contains-readings (r .whole) (d .2)) (subst (λ (q : Configuration). compile s .live q ≡ true) (d .3) (w .2))),
     λ w. (w .0, a .right (w .0) .1 (w .0, 0, w .1, sym (advance-none (w .0) (contains-readings (r .whole) (w .1)))), w .2),
   )
 
@@ -141,16 +140,16 @@ one-action (c ∷ d ∷ cs) h = absurd (omega arith)
 -- ---- The answer
 
 module _ (s : Bytes) (cs : List ℕ) (q : Configuration) (set : List ℕ) (places : ℕ) (u : Single s q set places) where
-  some-single : (G : Prospect → Type 0) (cs : List ℕ) → Some G s cs set ↔ G (prospect (modelOf s) cs q)
+  some-single : (G : Prospect → Type 0) (cs : List ℕ) → Some G s cs set ↔ G (prospect (compile s) cs q)
   some-single G cs = (
-    λ w. subst (λ (p : Configuration). G (prospect (modelOf s) cs p)) (u .only (w .member) .0 (w .contained)) (w .good),
+    λ w. subst (λ (p : Configuration). G (prospect (compile s) cs p)) (u .only (w .member) .0 (w .contained)) (w .good),
     λ h. record { member = q; contained = u .only q .1 refl; good = h },
   )
 
-  pub answer-is : 1 < length cs → (o : Outlook) → Rated s cs set o → o ≡ outlookOf (prospect (modelOf s) cs q) (isLit (modelOf s) q (frontOf cs))
-  answer-is l Correct h = ends-is (prospect (modelOf s) cs q) (isLit (modelOf s) q (frontOf cs)) (some-single Ends cs .0 h)
-  answer-is l Extensible h = lives-is (prospect (modelOf s) cs q) (isLit (modelOf s) q (frontOf cs)) (λ k. h .0 (some-single Ends cs .1 k)) (some-single Lives cs .0 (h .1))
-  answer-is l (Dead x) h = dead-is (prospect (modelOf s) cs q) (λ k. h .0 (some-single Lives cs .1 k)) (lit-some (modelOf s) q (frontOf cs) x (λ e. omega (arith, length-take-le (length cs - 1) cs (omega arith))) (dark-is (prospect (modelOf s) (frontOf cs) q) x (λ e. some-single Lives (frontOf cs) .0 (h .1 .0 e), λ k. h .1 .1 (some-single Lives (frontOf cs) .1 k))))
+  pub answer-is : 1 < length cs → (o : Outlook) → Rated s cs set o → o ≡ outlookOf (prospect (compile s) cs q) (isLit (compile s) q (frontOf cs))
+  answer-is l Correct h = ends-is (prospect (compile s) cs q) (isLit (compile s) q (frontOf cs)) (some-single Ends cs .0 h)
+  answer-is l Extensible h = lives-is (prospect (compile s) cs q) (isLit (compile s) q (frontOf cs)) (λ k. h .0 (some-single Ends cs .1 k)) (some-single Lives cs .0 (h .1))
+  answer-is l (Dead x) h = dead-is (prospect (compile s) cs q) (λ k. h .0 (some-single Lives cs .1 k)) (lit-some (compile s) q (frontOf cs) x (λ e. omega (arith, length-take-le (length cs - 1) cs (omega arith))) (dark-is (prospect (compile s) (frontOf cs) q) x (λ e. some-single Lives (frontOf cs) .0 (h .1 .0 e), λ k. h .1 .1 (some-single Lives (frontOf cs) .1 k))))
 
 -- ---- Dead or not
 

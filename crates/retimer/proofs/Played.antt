@@ -16,7 +16,6 @@ use Rattle.enforcement.proofs.Liveness.{Live, here, tick}
 use Rattle.enforcement.proofs.Compilation.{live-search}
 use Rattle.enforcement.proofs.Loading.{bounded}
 use Rattle.retimer.specs.declared.outlook.Outlook.the-variants.{Correct, Extensible, Dead}
-use Rattle.retimer.specs.Optimum.{modelOf}
 use Rattle.retimer.specs.Outlook.{outlookOf, Ends, Lives}
 use Rattle.retimer.proofs.ProspectKinds.{Saturated, advance-none, advance-more}
 
@@ -28,36 +27,36 @@ sooner-lives s (suc n) p h m =
     let e : 1 + n ≡ suc n = omega arith in
     tick (sooner-lives s n (advance 1 p) (omega arith, omega arith) (subst⁻¹ (Live (step s) (accepting s) (actions s)) (advance-more 1 n p ∙ ap (λ (k : ℕ). advance k p) e) m))
 
-pub sooner-live : (s : Bytes) → WellFormed s → (n : ℕ) (p : Configuration) → Saturated p → modelOf s .live (advance n p) ≡ true → modelOf s .live p ≡ true
+pub sooner-live : (s : Bytes) → WellFormed s → (n : ℕ) (p : Configuration) → Saturated p → compile s .live (advance n p) ≡ true → compile s .live p ≡ true
 sooner-live s loads n p h m = live-search s (bounded s loads) p (h .0) (h .1) .1 (sooner-lives s n p h (live-search s (bounded s loads) (advance n p) (omega arith) (omega arith) .0 m))
 
 -- ---- All is played
 
-nil-is : (s : Bytes) (q : Configuration) (a b : Bool) → accepting s (q .location) ≡ a → modelOf s .live q ≡ b → prospect (modelOf s) [] q ≡ cond a (ticks 0) (cond b extensible dead)
+nil-is : (s : Bytes) (q : Configuration) (a b : Bool) → accepting s (q .location) ≡ a → compile s .live q ≡ b → prospect (compile s) [] q ≡ cond a (ticks 0) (cond b extensible dead)
 unfolding ended compile
-nil-is s q a b e f = prospect-nil (modelOf s) q ∙ rw (e, f) refl
+nil-is s q a b e f = prospect-nil (compile s) q ∙ rw (e, f) refl
 
 -- An accepting location is live.
-accepting-live : (s : Bytes) → WellFormed s → (q : Configuration) → Saturated q → accepting s (q .location) ≡ true → modelOf s .live q ≡ true
+accepting-live : (s : Bytes) → WellFormed s → (q : Configuration) → Saturated q → accepting s (q .location) ≡ true → compile s .live q ≡ true
 accepting-live s loads q h e = live-search s (bounded s loads) q (h .0) (h .1) .1 (here e)
 
-pub ends-nil : (s : Bytes) (q : Configuration) → Ends (prospect (modelOf s) [] q) ↔ (accepting s (q .location) ≡ true)
-ends-nil s q = (λ h. to (accepting s (q .location)) refl (modelOf s .live q) refl h, λ e. subst⁻¹ Ends (nil-is s q true (modelOf s .live q) e refl) tt)
+pub ends-nil : (s : Bytes) (q : Configuration) → Ends (prospect (compile s) [] q) ↔ (accepting s (q .location) ≡ true)
+ends-nil s q = (λ h. to (accepting s (q .location)) refl (compile s .live q) refl h, λ e. subst⁻¹ Ends (nil-is s q true (compile s .live q) e refl) tt)
   where
-    to : (a : Bool) → accepting s (q .location) ≡ a → (b : Bool) → modelOf s .live q ≡ b → Ends (prospect (modelOf s) [] q) → accepting s (q .location) ≡ true
+    to : (a : Bool) → accepting s (q .location) ≡ a → (b : Bool) → compile s .live q ≡ b → Ends (prospect (compile s) [] q) → accepting s (q .location) ≡ true
     to true e b f h = e
     to false e true f h = absurd (subst Ends (nil-is s q false true e f) h)
     to false e false f h = absurd (subst Ends (nil-is s q false false e f) h)
 
-pub lives-nil : (s : Bytes) → WellFormed s → (q : Configuration) → Saturated q → Lives (prospect (modelOf s) [] q) ↔ (modelOf s .live q ≡ true)
-lives-nil s loads q k = (λ h. to (accepting s (q .location)) refl (modelOf s .live q) refl h, λ f. from (accepting s (q .location)) refl f)
+pub lives-nil : (s : Bytes) → WellFormed s → (q : Configuration) → Saturated q → Lives (prospect (compile s) [] q) ↔ (compile s .live q ≡ true)
+lives-nil s loads q k = (λ h. to (accepting s (q .location)) refl (compile s .live q) refl h, λ f. from (accepting s (q .location)) refl f)
   where
-    to : (a : Bool) → accepting s (q .location) ≡ a → (b : Bool) → modelOf s .live q ≡ b → Lives (prospect (modelOf s) [] q) → modelOf s .live q ≡ true
+    to : (a : Bool) → accepting s (q .location) ≡ a → (b : Bool) → compile s .live q ≡ b → Lives (prospect (compile s) [] q) → compile s .live q ≡ true
     to true e b f h = accepting-live s loads q k e
     to false e true f h = f
     to false e false f h = absurd (subst Lives (nil-is s q false false e f) h)
 
-    from : (a : Bool) → accepting s (q .location) ≡ a → modelOf s .live q ≡ true → Lives (prospect (modelOf s) [] q)
+    from : (a : Bool) → accepting s (q .location) ≡ a → compile s .live q ≡ true → Lives (prospect (compile s) [] q)
     from true e f = subst⁻¹ Lives (nil-is s q true true e f) tt
     from false e f = subst⁻¹ Lives (nil-is s q false true e f) tt
 

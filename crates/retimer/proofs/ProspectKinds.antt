@@ -11,11 +11,10 @@ use lib.Dec.{ltb}
 use borrow.Author.Tests.{ltb-true, ltb-false}
 use Rattle.enforcement.specs.Automaton.{Bytes}
 use Rattle.enforcement.specs.TimedWord.{Configuration, step}
-use Rattle.enforcement.specs.Model.{top, advance, headroom, Prospect, ticks, extensible, dead, later, better, afterStep, waits, prospect}
+use Rattle.enforcement.specs.Model.{top, advance, headroom, Prospect, ticks, extensible, dead, later, better, afterStep, waits, prospect, compile}
 use Rattle.enforcement.proofs.Saturation.{configuration-path}
 use Rattle.enforcement.proofs.Equations.{by-cond, prospect-cons}
 use Rattle.enforcement.proofs.Optimum.{Within, within-lower}
-use Rattle.retimer.specs.Optimum.{modelOf}
 use Rattle.retimer.specs.Outlook.{Ends, Lives}
 use Rattle.retimer.proofs.Prospects.{step-is}
 
@@ -129,20 +128,20 @@ module _ (G : Prospect → ℕ → Type 0) (g : Timed G) where
           inr (r .1 (u, omega arith, q, ap (st c) (advance-more 1 u p ∙ ap (λ (n : ℕ). advance n p) z) ∙ e, subst (G (f q)) (let z : d + suc u ≡ suc d + u = omega arith in z) m))
 
   -- A prospect is of the kind at a date just when after some wait the action leads to one.
-  pub prospect-timed : (s : Bytes) (c : ℕ) (cs : List ℕ) (p : Configuration) (d : ℕ) → Saturated p → G (prospect (modelOf s) (c ∷ cs) p) d ↔ ((u : ℕ) × (q : Configuration) × (step s c (advance u p) ≡ some q) × G (prospect (modelOf s) cs q) (d + u))
+  pub prospect-timed : (s : Bytes) (c : ℕ) (cs : List ℕ) (p : Configuration) (d : ℕ) → Saturated p → G (prospect (compile s) (c ∷ cs) p) d ↔ ((u : ℕ) × (q : Configuration) × (step s c (advance u p) ≡ some q) × G (prospect (compile s) cs q) (d + u))
   prospect-timed s c cs p d h =
-      let w = waits-kind (modelOf s .step) c (prospect (modelOf s) cs) (headroom p) p d h in
-      let e = prospect-cons (modelOf s) c cs p in (
+      let w = waits-kind (compile s .step) c (prospect (compile s) cs) (headroom p) p d h in
+      let e = prospect-cons (compile s) c cs p in (
         λ m. let v = w .0 (subst (λ (a : Prospect). G a d) e m) in (v .0, v .2, sym (step-is s c (advance (v .0) p)) ∙ v .3, v .4),
         λ v. subst⁻¹ (λ (a : Prospect). G a d) e (w .1 (go (v .0) (v .1) (v .2) (v .3) (ltb (v .0) (headroom p)) refl)),
       )
     where
-      go : (u : ℕ) (q : Configuration) → step s c (advance u p) ≡ some q → G (prospect (modelOf s) cs q) (d + u) → (b : Bool) → ltb u (headroom p) ≡ b → Soon (modelOf s .step) c (prospect (modelOf s) cs) (headroom p) p d
+      go : (u : ℕ) (q : Configuration) → step s c (advance u p) ≡ some q → G (prospect (compile s) cs q) (d + u) → (b : Bool) → ltb u (headroom p) ≡ b → Soon (compile s .step) c (prospect (compile s) cs) (headroom p) p d
       go u q e m true l = (u, omega (arith, ltb-true u (headroom p) l), q, step-is s c (advance u p) ∙ e, m)
       go u q e m false l =
           let k = ltb-false u (headroom p) l in
-          (headroom p, omega arith, q, step-is s c (advance (headroom p) p) ∙ ap (step s c) (sym (advance-most u p h k)) ∙ e, g .sooner (prospect (modelOf s) cs q) (d + headroom p) (d + u) (omega arith) m)
+          (headroom p, omega arith, q, step-is s c (advance (headroom p) p) ∙ ap (step s c) (sym (advance-most u p h k)) ∙ e, g .sooner (prospect (compile s) cs q) (d + headroom p) (d + u) (omega arith) m)
 
 -- The same of a kind that does not ask for the date.
-pub prospect-kind : (G : Prospect → Type 0) → Kind G → (s : Bytes) (c : ℕ) (cs : List ℕ) (p : Configuration) → Saturated p → G (prospect (modelOf s) (c ∷ cs) p) ↔ ((u : ℕ) × (q : Configuration) × (step s c (advance u p) ≡ some q) × G (prospect (modelOf s) cs q))
+pub prospect-kind : (G : Prospect → Type 0) → Kind G → (s : Bytes) (c : ℕ) (cs : List ℕ) (p : Configuration) → Saturated p → G (prospect (compile s) (c ∷ cs) p) ↔ ((u : ℕ) × (q : Configuration) × (step s c (advance u p) ≡ some q) × G (prospect (compile s) cs q))
 prospect-kind G g s c cs p h = prospect-timed (λ a d. G a) (timeless g) s c cs p 0 h

@@ -16,10 +16,9 @@ use Rattle.enforcement.proofs.Loading.{header}
 use Rattle.enforcement.proofs.Memo.{steps-is}
 use Rattle.enforcement.proofs.Equations.{AtMost, prospect-most}
 use Rattle.retimer.specs.Readings.{Readings, waited, Standing}
-use Rattle.retimer.specs.Optimum.{modelOf}
 
 -- The model's steps are the automaton's.
-pub step-is : (s : Bytes) (c : ℕ) (p : Configuration) → modelOf s .step c p ≡ step s c p
+pub step-is : (s : Bytes) (c : ℕ) (p : Configuration) → compile s .step c p ≡ step s c p
 unfolding compile
 step-is s c p = steps-is s c p
 

@@ -11,11 +11,10 @@ use borrow.Author.Tests.{eqb-true, eqb-false}
 use Rattle.enforcement.specs.Automaton.{Bytes, Transition, transitions, accepting, actions, bit}
 use Rattle.enforcement.specs.Loading.{WellFormed, AllFit, Bounded}
 use Rattle.enforcement.specs.TimedWord.{Configuration, fire}
-use Rattle.enforcement.specs.Model.{top, Prospect, ticks, extensible, dead, Compiled, prospect}
+use Rattle.enforcement.specs.Model.{top, Prospect, ticks, extensible, dead, Compiled, prospect, compile}
 use Rattle.enforcement.specs.Monitor.{isDead, noneNext}
 use Rattle.enforcement.proofs.Tests.{Finds}
 use Rattle.enforcement.proofs.Loading.{bounded}
-use Rattle.retimer.specs.Optimum.{modelOf}
 use Rattle.retimer.specs.Waits.{firstWait, endWait, along}
 use Rattle.retimer.specs.Steps.{One}
 use Rattle.retimer.specs.Outlook.{Ends, Lives}
@@ -34,7 +33,7 @@ fired-saturated t x y u = (cond-most (bit (t .resets) 0) (min (x + u) top) top (
 
 -- A configuration that is live.
 abbrev pub LiveIn : Bytes → ℕ → Configuration → Type 0
-LiveIn s u q = modelOf s .live q ≡ true
+LiveIn s u q = compile s .live q ≡ true
 
 -- A transition for the action c is enabled after some wait and has an accepting target.
 abbrev pub EndsFor : Bytes → ℕ → ℕ → ℕ → Transition → Type 0
@@ -44,7 +43,7 @@ EndsFor s c x y t = ((t .action ≡ c) × (firstWait t x y < endWait t x y)) × 
 
 module _ (s : Bytes) (loads : WellFormed s) (p : Configuration) (h : Saturated p) where
   -- It has a correction just when a transition for it, enabled after some wait, has an accepting target.
-  pub single-ends : (c : ℕ) → Ends (prospect (modelOf s) (c ∷ []) p) ↔ One (EndsFor s c (p .x) (p .y)) (transitions s (p .location))
+  pub single-ends : (c : ℕ) → Ends (prospect (compile s) (c ∷ []) p) ↔ One (EndsFor s c (p .x) (p .y)) (transitions s (p .location))
   unfolding Bounded
   single-ends c =
       let w = kind-leads Ends ends-kind s loads c [] p h in
@@ -54,7 +53,7 @@ module _ (s : Bytes) (loads : WellFormed s) (p : Configuration) (h : Saturated p
       )
 
   -- It is not dead just when a transition for it leads, after some wait, to a live configuration.
-  pub single-lives : (c : ℕ) → Lives (prospect (modelOf s) (c ∷ []) p) ↔ One (LeadsFor c (LiveIn s) (p .x) (p .y) 0) (transitions s (p .location))
+  pub single-lives : (c : ℕ) → Lives (prospect (compile s) (c ∷ []) p) ↔ One (LeadsFor c (LiveIn s) (p .x) (p .y) 0) (transitions s (p .location))
   unfolding Bounded
   single-lives c =
       let w = kind-leads Lives lives-kind s loads c [] p h in
@@ -94,7 +93,7 @@ none-next-finds m p (suc n) = go (isDead (prospect m (n ∷ []) p)) refl (noneNe
     go false e b f = record { passes = λ k. let z : _≡_ {A = ℕ} 0 1 = cc in absurd (omega arith); fails = λ k. (n, omega arith, not-dead (prospect m (n ∷ []) p) e) }
 
 -- Some next action is not dead just when a transition leads, after some wait, to a live configuration.
-pub next-lives : (s : Bytes) → WellFormed s → (p : Configuration) → Saturated p → NextLives (modelOf s) p (actions s) ↔ One (Leads (LiveIn s) (p .x) (p .y) 0) (transitions s (p .location))
+pub next-lives : (s : Bytes) → WellFormed s → (p : Configuration) → Saturated p → NextLives (compile s) p (actions s) ↔ One (Leads (LiveIn s) (p .x) (p .y) 0) (transitions s (p .location))
 unfolding Bounded
 next-lives s loads p h = (
   λ w. one-map (transitions s (p .location)) fit (λ t f v. v .1) (single-lives s loads p h (w .0) .0 (w .2)),

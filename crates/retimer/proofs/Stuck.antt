@@ -8,14 +8,13 @@ use native.Mathlib.Omega.{arith}
 use lib.ListN.{length}
 use Rattle.enforcement.specs.Automaton.{Bytes, actions}
 use Rattle.enforcement.specs.TimedWord.{Configuration}
-use Rattle.enforcement.specs.Model.{Compiled, prospect}
+use Rattle.enforcement.specs.Model.{Compiled, prospect, compile}
 use Rattle.enforcement.specs.Monitor.{isDead, noneNext, isLit}
-use Rattle.retimer.specs.Optimum.{modelOf}
 use Rattle.retimer.proofs.CallLaws.{known-is}
 
-pub lit-empty : (s : Bytes) (p : Configuration) (cs : List ℕ) (x : Bool) → length cs ≡ 0 → x ≡ noneNext (modelOf s) p (actions s) → x ≡ isLit (modelOf s) p cs
+pub lit-empty : (s : Bytes) (p : Configuration) (cs : List ℕ) (x : Bool) → length cs ≡ 0 → x ≡ noneNext (compile s) p (actions s) → x ≡ isLit (compile s) p cs
 unfolding isLit
-lit-empty s p [] x h e = e ∙ ap (noneNext (modelOf s) p) (sym (known-is s))
+lit-empty s p [] x h e = e ∙ ap (noneNext (compile s) p) (sym (known-is s))
 lit-empty s p (c ∷ cs) x h e = absurd (omega arith)
 
 pub lit-some : (m : Compiled) (p : Configuration) (cs : List ℕ) (x : Bool) → (length cs ≡ 0 → ⊥) → x ≡ isDead (prospect m cs p) → x ≡ isLit m p cs

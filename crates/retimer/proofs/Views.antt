@@ -15,7 +15,7 @@ use Rattle.enforcement.specs.Automaton.{Bytes}
 use Rattle.enforcement.specs.TimedWord.{Configuration}
 use Rattle.enforcement.specs.History.{Request, actionsOf, place, Outcome, scheduled, held, dropped, played, nothing}
 use Rattle.enforcement.specs.History as history
-use Rattle.enforcement.specs.Model.{Compiled, advance}
+use Rattle.enforcement.specs.Model.{Compiled, advance, compile}
 use Rattle.enforcement.specs.Monitor.{isLit, lampLit, withLamp, same, dated, joins, earliest, standing, walk, placed, kept, taken, oldest}
 use Rattle.enforcement.specs.Monitor as model
 use Rattle.retimer.specs.declared.limits.Request as limits
@@ -28,7 +28,6 @@ use Rattle.retimer.specs.declared.reason.Reason.{Reason}
 use Rattle.retimer.specs.declared.reason.Reason.the-variants.{S2, S3, S4}
 use Rattle.retimer.specs.Reasons.{reasonOf}
 use Rattle.retimer.specs.Readings.{located, Standing}
-use Rattle.retimer.specs.Optimum.{modelOf}
 use Rattle.retimer.specs.View.{requestOf, slotOf, pendingOf, scheduleOf, view, StateSound}
 use Rattle.retimer.specs.Calls.{noSlot, movedOf, movedTo, dropping, lampWith, lampAt, Idle, Done, lastAction, newDates, PlaceAsked, placedOf}
 use Rattle.retimer.proofs.ProspectKinds.{advance-none}
@@ -108,7 +107,7 @@ view-path : {t last : ℕ} {rs rs′ : List Request} {ss ss′ : List history.Sl
 view-path {t} {last} d e f h g = λ i. record { date = t; pending = d i; schedule = e i; configuration = f i; last = last; numbered = h i; lit = g i }
 
 -- Only the date, the count and the lamp moved.
-moved-view : (s : Bytes) (q : State) (t n n′ : ℕ) (lit : Bool) → n ≡ n′ → lit ≡ lampAt s q t → view (movedTo q t n lit) ≡ dated (modelOf s) (view q) t n′
+moved-view : (s : Bytes) (q : State) (t n n′ : ℕ) (lit : Bool) → n ≡ n′ → lit ≡ lampAt s q t → view (movedTo q t n lit) ≡ dated (compile s) (view q) t n′
 unfolding view lampLit
 moved-view s q t n n′ lit e l = view-path refl refl refl e l
 
@@ -129,7 +128,7 @@ module _ {s : Bytes} {live : List ℕ} where
   moved-sound q t n lit f h k = record { loads = f .loads; table = f .table; pending-sized = f .pending-sized; held-fits = f .held-fits; schedule-sized = f .schedule-sized; planned-fits = f .planned-fits; standing = f .standing; date-fits = h; last-fits = f .last-fits; numbered-fits = k }
 
   -- Case 3.
-  pub dropped-done : (q : State) (t : ℕ) (lit : Bool) (w : model.Answered) → StateSound s live q → t ≤ maxDate → q .numbered < maxNumbered → lit ≡ lampAt s q t → answering dropped (dated (modelOf s) (view q) t (suc (view q .numbered))) ≡ w → Done s live q w (dropping q t lit)
+  pub dropped-done : (q : State) (t : ℕ) (lit : Bool) (w : model.Answered) → StateSound s live q → t ≤ maxDate → q .numbered < maxNumbered → lit ≡ lampAt s q t → answering dropped (dated (compile s) (view q) t (suc (view q .numbered))) ≡ w → Done s live q w (dropping q t lit)
   unfolding view
   dropped-done q t lit w f h k l e = plain-done q w (dropping q t lit) tt (λ z. refl) (ap (answering dropped) (moved-view s q t (q .numbered + 1) (suc (q .numbered)) lit (add-one (q .numbered)) l) ∙ e) (moved-sound q t (q .numbered + 1) lit f h (omega arith))
 
@@ -137,17 +136,17 @@ module _ {s : Bytes} {live : List ℕ} where
   holding-sound : (q : State) (c t : ℕ) → StateSound s live q → t ≤ maxDate → q .numbered < maxNumbered → q .held < maxCount → StateSound s live (holding q c t)
   holding-sound q c t f h n k = record { loads = f .loads; table = f .table; pending-sized = length-set (q .pending) (q .held) (nextOf q c t) ∙ f .pending-sized; held-fits = omega arith; schedule-sized = f .schedule-sized; planned-fits = f .planned-fits; standing = f .standing; date-fits = h; last-fits = f .last-fits; numbered-fits = omega arith }
 
-  holding-is : (q : State) (c t : ℕ) → StateSound s live q → q .held < maxCount → lampWith s q t (actionsOf (joins (view q) c t)) ≡ false → answering held (view (holding q c t)) ≡ kept (modelOf s) (view q) c t (leb maxCount (length (view q .pending)))
+  holding-is : (q : State) (c t : ℕ) → StateSound s live q → q .held < maxCount → lampWith s q t (actionsOf (joins (view q) c t)) ≡ false → answering held (view (holding q c t)) ≡ kept (compile s) (view q) c t (leb maxCount (length (view q .pending)))
   unfolding kept view lampLit
   holding-is q c t f k d =
       let e : take (q .held + 1) (set (q .pending) (q .held) (nextOf q c t)) ≡ take (q .held) (q .pending) ++ (nextOf q c t ∷ []) = rw (add-one, take-suc-set (q .pending) (q .held) (nextOf q c t) (omega (arith, f .pending-sized))) in
       rw (pending-length q f, lt-leb maxCount (q .held) k) (ap (answering held) (view-path (ap (map requestOf) e ∙ joins-requests q c t) refl refl (add-one (q .numbered)) (sym d)))
 
-  pub full-done : (q : State) (c t : ℕ) → StateSound s live q → maxCount ≤ q .held → Done s live q (kept (modelOf s) (view q) c t (leb maxCount (length (view q .pending)))) (record { state = q; answer = Refused S4 })
+  pub full-done : (q : State) (c t : ℕ) → StateSound s live q → maxCount ≤ q .held → Done s live q (kept (compile s) (view q) c t (leb maxCount (length (view q .pending)))) (record { state = q; answer = Refused S4 })
   unfolding kept
-  full-done q c t f h = refused-done q S4 (kept (modelOf s) (view q) c t (leb maxCount (length (view q .pending)))) f (rw (pending-length q f, le-leb maxCount (q .held) h))
+  full-done q c t f h = refused-done q S4 (kept (compile s) (view q) c t (leb maxCount (length (view q .pending)))) f (rw (pending-length q f, le-leb maxCount (q .held) h))
 
-  pub held-done : (q : State) (c t : ℕ) → StateSound s live q → t ≤ maxDate → q .numbered < maxNumbered → q .held < maxCount → lampWith s q t (actionsOf (joins (view q) c t)) ≡ false → Done s live q (kept (modelOf s) (view q) c t (leb maxCount (length (view q .pending)))) (record { state = holding q c t; answer = Held (q .held + 1) })
+  pub held-done : (q : State) (c t : ℕ) → StateSound s live q → t ≤ maxDate → q .numbered < maxNumbered → q .held < maxCount → lampWith s q t (actionsOf (joins (view q) c t)) ≡ false → Done s live q (kept (compile s) (view q) c t (leb maxCount (length (view q .pending)))) (record { state = holding q c t; answer = Held (q .held + 1) })
   held-done q c t f h i k d = record {
     is = holding-is q c t f k d;
     sound = holding-sound q c t f h i k;
@@ -172,10 +171,10 @@ module _ {s : Bytes} {live : List ℕ} where
 
 -- What place works out.
 module _ {s : Bytes} {live : List ℕ} (q : State) (t : ℕ) (cs ds : List ℕ) (l : ℕ) (r : List ℕ) (last : ℕ) (slots : List Slot) (lit : Bool) (p : PlaceAsked s live q t cs ds last l r)
-    (e : map slotOf (take (q .planned + (q .held + 1)) slots) ≡ map slotOf (take (q .planned) (q .schedule)) ++ place (pendingOf q ++ (requestOf (nextOf q (lastAction q cs) t) ∷ [])) (take (q .held + 1) ds)) (none : lit ≡ isLit (modelOf s) (located l r) []) where
+    (e : map slotOf (take (q .planned + (q .held + 1)) slots) ≡ map slotOf (take (q .planned) (q .schedule)) ++ place (pendingOf q ++ (requestOf (nextOf q (lastAction q cs) t) ∷ [])) (take (q .held + 1) ds)) (none : lit ≡ isLit (compile s) (located l r) []) where
   -- Where the actions end.
   abbrev ending : Configuration
-  ending = walk (modelOf s .step) (actionsOf (joins (view q) (lastAction q cs) t)) (newDates q ds) (earliest (view q) t) (standing (view q) t)
+  ending = walk (compile s .step) (actionsOf (joins (view q) (lastAction q cs) t)) (newDates q ds) (earliest (view q) t) (standing (view q) t)
 
   -- That is also where the next one can be played.
   ends-here : located l r ≡ advance (max t last - last) ending
@@ -183,7 +182,7 @@ module _ {s : Bytes} {live : List ℕ} (q : State) (t : ℕ) (cs ds : List ℕ) 
       let z : max t last - last ≡ 0 = omega (arith, p .ordered) in
       sym (advance-none (located l r) (p .stands .readings .first, p .stands .readings .second)) ∙ ap₂ advance (sym z) (p .reached)
 
-  placing-view : view (placing q t slots l r last lit) ≡ withLamp (modelOf s) (record {
+  placing-view : view (placing q t slots l r last lit) ≡ withLamp (compile s) (record {
     date = t;
     pending = [];
     schedule = view q .schedule ++ place (joins (view q) (lastAction q cs) t) (newDates q ds);
@@ -195,7 +194,7 @@ module _ {s : Bytes} {live : List ℕ} (q : State) (t : ℕ) (cs ds : List ℕ) 
   unfolding view lampLit
   placing-view =
       let z : pendingOf q ++ (requestOf (nextOf q (lastAction q cs) t) ∷ []) ≡ joins (view q) (lastAction q cs) t = ap (λ (n : ℕ). pendingOf q ++ (record { action = lastAction q cs; number = n; offered = t } ∷ [])) (add-one (q .numbered)) in
-      view-path refl (e ∙ ap (λ (rs : List Request). scheduleOf q ++ place rs (newDates q ds)) z) (p .reached) (add-one (q .numbered)) (none ∙ ap (λ (x : Configuration). isLit (modelOf s) x []) ends-here)
+      view-path refl (e ∙ ap (λ (rs : List Request). scheduleOf q ++ place rs (newDates q ds)) z) (p .reached) (add-one (q .numbered)) (none ∙ ap (λ (x : Configuration). isLit (compile s) x []) ends-here)
 
   module _ (d : length ds ≡ maxCount + 1) (h : last ≤ maxDate) (k : q .held + 1 ≤ maxScheduled - q .planned) where
     placing-is : answering (scheduled (q .held + 1) last) (view (placing q t slots l r last lit)) ≡ placedOf s q t cs ds last
@@ -235,24 +234,24 @@ module _ {s : Bytes} {live : List ℕ} (q : State) (t : ℕ) (lit : Bool) (f : S
   waiting = record { state = movedTo q t (q .numbered) lit; answer = Nothing }
 
   abbrev answered : model.Answered
-  answered = oldest (modelOf s) (view q) t (view q .schedule)
+  answered = oldest (compile s) (view q) t (view q .schedule)
 
-  none-done : answering nothing (dated (modelOf s) (view q) t (view q .numbered)) ≡ answered → Done s live q answered waiting
+  none-done : answering nothing (dated (compile s) (view q) t (view q .numbered)) ≡ answered → Done s live q answered waiting
   unfolding view
   none-done e = plain-done q answered waiting tt (λ z. refl) (ap (answering nothing) (moved-view s q t (q .numbered) (q .numbered) lit refl l) ∙ e) (moved-sound q t (q .numbered) lit f h (f .numbered-fits))
 
   pub empty-done : q .planned ≡ 0 → Done s live q answered waiting
   unfolding view
-  empty-done z = none-done (oldest-none (modelOf s) (view q) t (scheduleOf q) (rw z))
+  empty-done z = none-done (oldest-none (compile s) (view q) t (scheduleOf q) (rw z))
 
   pub early-done : 0 < q .planned → t < first q .date → Done s live q answered waiting
   unfolding view
-  early-done k e = none-done (oldest-early (modelOf s) (view q) t (scheduleOf q) _ _ (schedule-front q f k) e)
+  early-done k e = none-done (oldest-early (compile s) (view q) t (scheduleOf q) _ _ (schedule-front q f k) e)
 
   module _ (slots : List Slot) (k : 0 < q .planned) (e : first q .date ≤ t) (g : take (q .planned - 1) slots ≡ drop 1 (take (q .planned) (q .schedule))) (n : length slots ≡ maxScheduled) where
     played-is : answering (played (first q .request .action) (first q .date) (first q .request .number) (first q .request .offered)) (view (playing q t slots lit)) ≡ answered
     unfolding view lampLit
-    played-is = ap (answering (played (first q .request .action) (first q .date) (first q .request .number) (first q .request .offered))) (view-path refl (ap (map slotOf) g) refl refl l) ∙ oldest-played (modelOf s) (view q) t (scheduleOf q) _ _ (schedule-front q f k) e
+    played-is = ap (answering (played (first q .request .action) (first q .date) (first q .request .number) (first q .request .offered))) (view-path refl (ap (map slotOf) g) refl refl l) ∙ oldest-played (compile s) (view q) t (scheduleOf q) _ _ (schedule-front q f k) e
 
     playing-sound : StateSound s live (playing q t slots lit)
     playing-sound = record { loads = f .loads; table = f .table; pending-sized = f .pending-sized; held-fits = f .held-fits; schedule-sized = n; planned-fits = omega (arith, f .planned-fits); standing = f .standing; date-fits = h; last-fits = f .last-fits; numbered-fits = f .numbered-fits }

@@ -13,13 +13,12 @@ use lib.Seq.{take-suc-set, drop-set-lt}
 use borrow.Author.Tests.{eqb-true, eqb-false, le-leb}
 use Rattle.enforcement.specs.Automaton.{Bytes}
 use Rattle.enforcement.specs.TimedWord.{Configuration}
-use Rattle.enforcement.specs.Model.{top, advance, headroom, Prospect, ticks, extensible, dead, later, keeps, better, afterStep, datesAfter, waits, reads, Compiled, prospect, dates}
+use Rattle.enforcement.specs.Model.{top, advance, headroom, Prospect, ticks, extensible, dead, later, keeps, better, afterStep, datesAfter, waits, reads, Compiled, prospect, dates, compile}
 use Rattle.enforcement.specs.Monitor.{walk, walkOn}
 use Rattle.enforcement.proofs.Saturation.{Steps, configuration-path}
 use Rattle.enforcement.proofs.Equations.{prospect-cons, prospect-top, prospect-next, dates-nil, dates-cons, dates-now, dates-later, dates-top}
 use Rattle.retimer.specs.declared.optimum.Reached.{Reached}
 use Rattle.retimer.specs.Readings.{Readings, waited, located, Standing}
-use Rattle.retimer.specs.Optimum.{modelOf}
 use Rattle.retimer.specs.Dates.{leftAt, playedNow, Written}
 use Rattle.retimer.proofs.Valuations.{located-waited}
 use Rattle.retimer.proofs.Prospects.{left-some}
@@ -178,7 +177,7 @@ module _ (s : Bytes) (cs : List ℕ) (k l : ℕ) (r : List ℕ) where
   written-end t out e h =
       let none-left : drop k cs ≡ [] = drop-of-length-le cs {i = k} (omega arith) in
       record {
-        dates-are = rw (none-left, dates-nil (modelOf s) here t, append-nil, e);
+        dates-are = rw (none-left, dates-nil (compile s) here t, append-nil, e);
         rest-kept = refl;
         reached = rw none-left;
         standing = h;
@@ -188,25 +187,25 @@ module _ (s : Bytes) (cs : List ℕ) (k l : ℕ) (r : List ℕ) where
     is-some : drop k cs ≡ getD cs k 0 ∷ drop (k + 1) cs
     is-some = left-some cs k some-left
 
-    least-some : prospect (modelOf s) (getD cs k 0 ∷ drop (k + 1) cs) here ≡ ticks n
-    least-some = ap (λ (z : List ℕ). prospect (modelOf s) z here) (sym is-some) ∙ least
+    least-some : prospect (compile s) (getD cs k 0 ∷ drop (k + 1) cs) here ≡ ticks n
+    least-some = ap (λ (z : List ℕ). prospect (compile s) z here) (sym is-some) ∙ least
 
     -- The action is played now, and leads to the location u with the readings w.
-    module _ (t u : ℕ) (w : List ℕ) (found : modelOf s .step (getD cs k 0) here ≡ some (located u w)) (now : playedNow s cs k here ≡ ticks n) where
+    module _ (t u : ℕ) (w : List ℕ) (found : compile s .step (getD cs k 0) here ≡ some (located u w)) (now : playedNow s cs k here ≡ ticks n) where
       pub left-after : leftAt s cs (k + 1) (located u w) ≡ ticks n
-      left-after = ap (λ (o : Option Configuration). afterStep o (prospect (modelOf s) (drop (k + 1) cs))) (sym found) ∙ now
+      left-after = ap (λ (o : Option Configuration). afterStep o (prospect (compile s) (drop (k + 1) cs))) (sym found) ∙ now
 
-      dates-here : dates (modelOf s) (drop k cs) here t ≡ t ∷ dates (modelOf s) (drop (k + 1) cs) (located u w) t
+      dates-here : dates (compile s) (drop k cs) here t ≡ t ∷ dates (compile s) (drop (k + 1) cs) (located u w) t
       dates-here =
-          ap (λ (z : List ℕ). dates (modelOf s) z here t) is-some ∙ dates-played (modelOf s) (getD cs k 0) (drop (k + 1) cs) here (saturated-at l h) n t least-some now
-          ∙ ap (λ (o : Option Configuration). t ∷ datesAfter o (λ (q : Configuration). dates (modelOf s) (drop (k + 1) cs) q t)) found
+          ap (λ (z : List ℕ). dates (compile s) z here t) is-some ∙ dates-played (compile s) (getD cs k 0) (drop (k + 1) cs) here (saturated-at l h) n t least-some now
+          ∙ ap (λ (o : Option Configuration). t ∷ datesAfter o (λ (q : Configuration). dates (compile s) (drop (k + 1) cs) q t)) found
 
       pub written-played : (before out : List ℕ) (q : Reached) → k < length before → Written s cs (k + 1) u w t (set before k t) out q → Written s cs k l r t before out q
       written-played before out q room z =
           record {
             dates-are = z .dates-are ∙ rw (add-one, take-suc-set before k t room, append-assoc, ← add-one, dates-here);
             rest-kept = z .rest-kept ∙ drop-set-lt (length cs) before k t some-left;
-            reached = z .reached ∙ sym (rw (dates-here, is-some) (walk-played (modelOf s .step) (getD cs k 0) (drop (k + 1) cs) (dates (modelOf s) (drop (k + 1) cs) (located u w) t) here (located u w) t (saturated-at l h) found));
+            reached = z .reached ∙ sym (rw (dates-here, is-some) (walk-played (compile s .step) (getD cs k 0) (drop (k + 1) cs) (dates (compile s) (drop (k + 1) cs) (located u w) t) here (located u w) t (saturated-at l h) found));
             standing = z .standing;
           }
 
@@ -216,25 +215,25 @@ module _ (s : Bytes) (cs : List ℕ) (k l : ℕ) (r : List ℕ) where
       located-later = ap (located l) is-waited ∙ located-waited l 1 r
 
       pub not-full : getD r 0 0 + getD r 1 0 ≡ 2 * top → ⊥
-      not-full = not-top (modelOf s) (getD cs k 0) (drop (k + 1) cs) here (saturated-at l h) n least-some not-now
+      not-full = not-top (compile s) (getD cs k 0) (drop (k + 1) cs) here (saturated-at l h) n least-some not-now
 
       pub some-ticks : 1 ≤ n
-      some-ticks = waited-some (modelOf s) (getD cs k 0) (drop (k + 1) cs) here (saturated-at l h) n least-some not-now
+      some-ticks = waited-some (compile s) (getD cs k 0) (drop (k + 1) cs) here (saturated-at l h) n least-some not-now
 
       pub left-later : leftAt s cs k (located l w) ≡ ticks (n - 1)
-      left-later = rw (located-later, is-some) (waited-least (modelOf s) (getD cs k 0) (drop (k + 1) cs) here (saturated-at l h) n least-some not-now)
+      left-later = rw (located-later, is-some) (waited-least (compile s) (getD cs k 0) (drop (k + 1) cs) here (saturated-at l h) n least-some not-now)
 
-      dates-late : (t : ℕ) → dates (modelOf s) (drop k cs) (located l w) (t + 1) ≡ dates (modelOf s) (drop k cs) here t
-      dates-late t = rw (located-later, is-some, add-one t) (sym (dates-waited (modelOf s) (getD cs k 0) (drop (k + 1) cs) here (saturated-at l h) n least-some not-now t))
+      dates-late : (t : ℕ) → dates (compile s) (drop k cs) (located l w) (t + 1) ≡ dates (compile s) (drop k cs) here t
+      dates-late t = rw (located-later, is-some, add-one t) (sym (dates-waited (compile s) (getD cs k 0) (drop (k + 1) cs) here (saturated-at l h) n least-some not-now t))
 
-      walk-late : (t : ℕ) → walk (modelOf s .step) (drop k cs) (dates (modelOf s) (drop k cs) (located l w) (t + 1)) (t + 1) (located l w) ≡ walk (modelOf s .step) (drop k cs) (dates (modelOf s) (drop k cs) (located l w) (t + 1)) t here
-      walk-late t = rw (located-later, is-some, add-one t) (sym (walk-waited (modelOf s) (getD cs k 0) (drop (k + 1) cs) here t (n - 1) (waited-least (modelOf s) (getD cs k 0) (drop (k + 1) cs) here (saturated-at l h) n least-some not-now)))
+      walk-late : (t : ℕ) → walk (compile s .step) (drop k cs) (dates (compile s) (drop k cs) (located l w) (t + 1)) (t + 1) (located l w) ≡ walk (compile s .step) (drop k cs) (dates (compile s) (drop k cs) (located l w) (t + 1)) t here
+      walk-late t = rw (located-later, is-some, add-one t) (sym (walk-waited (compile s) (getD cs k 0) (drop (k + 1) cs) here t (n - 1) (waited-least (compile s) (getD cs k 0) (drop (k + 1) cs) here (saturated-at l h) n least-some not-now)))
 
       pub written-waited : (t : ℕ) (before out : List ℕ) (q : Reached) → Written s cs k l w (t + 1) before out q → Written s cs k l r t before out q
       written-waited t before out q z =
           record {
             dates-are = z .dates-are ∙ ap (λ (ds : List ℕ). take k before ++ ds) (dates-late t);
             rest-kept = z .rest-kept;
-            reached = z .reached ∙ walk-late t ∙ ap (λ (ds : List ℕ). walk (modelOf s .step) (drop k cs) ds t here) (dates-late t);
+            reached = z .reached ∙ walk-late t ∙ ap (λ (ds : List ℕ). walk (compile s .step) (drop k cs) ds t here) (dates-late t);
             standing = z .standing;
           }

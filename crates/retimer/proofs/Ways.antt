@@ -12,10 +12,9 @@ use borrow.Author.Tests.{leb-true, leb-false}
 use Rattle.enforcement.specs.Automaton.{Bytes, Transition, transitions, enabled}
 use Rattle.enforcement.specs.Loading.{WellFormed, Fits, AllFit, Bounded}
 use Rattle.enforcement.specs.TimedWord.{Configuration, fire, step}
-use Rattle.enforcement.specs.Model.{advance, headroom, Prospect, prospect}
+use Rattle.enforcement.specs.Model.{advance, headroom, Prospect, prospect, compile}
 use Rattle.enforcement.proofs.Tests.{test-true}
 use Rattle.enforcement.proofs.Loading.{bounded}
-use Rattle.retimer.specs.Optimum.{modelOf}
 use Rattle.retimer.specs.Waits.{saturation, along}
 use Rattle.retimer.proofs.Intervals.{interval, end-is}
 use Rattle.retimer.specs.Steps.{One}
@@ -61,24 +60,24 @@ module _ (s : Bytes) (c : ℕ) (p : Configuration) (h : Saturated p) (e : ℕ) (
 -- From a position e of the diagonal of saturated readings, up to saturation, the prospect is of a kind just when one of the location's transitions for the first action leads, at a position
 -- from e on of its interval, to a prospect of the kind.
 pub prospect-leads : (G : Prospect → ℕ → Type 0) → Timed G → (s : Bytes) → WellFormed s → (c : ℕ) (cs : List ℕ) (p : Configuration) (e : ℕ) → Saturated p → e ≤ headroom p
-    → G (prospect (modelOf s) (c ∷ cs) (advance e p)) e ↔ One (LeadsFor c (λ (u : ℕ) (q : Configuration). G (prospect (modelOf s) cs q) u) (p .x) (p .y) e) (transitions s (p .location))
+    → G (prospect (compile s) (c ∷ cs) (advance e p)) e ↔ One (LeadsFor c (λ (u : ℕ) (q : Configuration). G (prospect (compile s) cs q) u) (p .x) (p .y) e) (transitions s (p .location))
 unfolding Bounded
 prospect-leads G g s loads c cs p e h k = (to, from)
   where
     H : ℕ → Configuration → Type 0
-    H u q = G (prospect (modelOf s) cs q) u
+    H u q = G (prospect (compile s) cs q) u
 
     sooner : (u : ℕ) (q : Configuration) → headroom p ≤ u → H u q → H (headroom p) q
-    sooner u q l m = g .sooner (prospect (modelOf s) cs q) (headroom p) u l m
+    sooner u q l m = g .sooner (prospect (compile s) cs q) (headroom p) u l m
 
-    to : G (prospect (modelOf s) (c ∷ cs) (advance e p)) e → One (LeadsFor c H (p .x) (p .y) e) (transitions s (p .location))
+    to : G (prospect (compile s) (c ∷ cs) (advance e p)) e → One (LeadsFor c H (p .x) (p .y) e) (transitions s (p .location))
     to m =
         let w = prospect-timed G g s c cs (advance e p) e (omega arith, omega arith) .0 m in
         let u : ℕ = e + w .0 in
         let stepped : step s c (advance u p) ≡ some (w .1) = ap (step s c) (sym (advance-more e (w .0) p)) ∙ w .2 in
         one-map (transitions s (p .location)) (bounded s loads (p .location)) (λ t f a. (a .0, leads-at H t f p h e k sooner u (omega arith) (a .1) (subst (H u) (sym (a .2)) (w .3)))) (step-one s loads c (advance u p) (w .1) .0 stepped)
 
-    from : One (LeadsFor c H (p .x) (p .y) e) (transitions s (p .location)) → G (prospect (modelOf s) (c ∷ cs) (advance e p)) e
+    from : One (LeadsFor c H (p .x) (p .y) e) (transitions s (p .location)) → G (prospect (compile s) (c ∷ cs) (advance e p)) e
     from w =
         let r = some-taken s c p h e H (transitions s (p .location)) (bounded s loads (p .location)) w in
         let n : e + (r .0 - e) ≡ r .0 = omega (arith, r .1) in
@@ -91,7 +90,7 @@ prospect-leads G g s loads c cs p e h k = (to, from)
 
 -- The same of a kind that does not ask for the date, from the readings themselves.
 pub kind-leads : (G : Prospect → Type 0) → Kind G → (s : Bytes) → WellFormed s → (c : ℕ) (cs : List ℕ) (p : Configuration) → Saturated p
-    → G (prospect (modelOf s) (c ∷ cs) p) ↔ One (LeadsFor c (λ (u : ℕ) (q : Configuration). G (prospect (modelOf s) cs q)) (p .x) (p .y) 0) (transitions s (p .location))
+    → G (prospect (compile s) (c ∷ cs) p) ↔ One (LeadsFor c (λ (u : ℕ) (q : Configuration). G (prospect (compile s) cs q)) (p .x) (p .y) 0) (transitions s (p .location))
 kind-leads G g s loads c cs p h =
-    subst (λ (q : Configuration). G (prospect (modelOf s) (c ∷ cs) q) ↔ One (LeadsFor c (λ (u : ℕ) (q : Configuration). G (prospect (modelOf s) cs q)) (p .x) (p .y) 0) (transitions s (p .location))) (advance-none p h)
+    subst (λ (q : Configuration). G (prospect (compile s) (c ∷ cs) q) ↔ One (LeadsFor c (λ (u : ℕ) (q : Configuration). G (prospect (compile s) cs q)) (p .x) (p .y) 0) (transitions s (p .location))) (advance-none p h)
     (prospect-leads (λ a d. G a) (timeless g) s loads c cs p 0 h (omega arith))

@@ -10,7 +10,7 @@ use Rattle.enforcement.specs.Automaton.{Bytes, automaton}
 use Rattle.enforcement.specs.Loading.{Loads, check}
 use Rattle.enforcement.specs.History.{History, fresh, Call, actionsOf, Outcome, scheduled, held, dropped, played, nothing, lit, dark, refused}
 use Rattle.enforcement.specs.Monitor as model
-use Rattle.enforcement.specs.Model.{ticks, prospect}
+use Rattle.enforcement.specs.Model.{ticks, prospect, compile}
 use Rattle.enforcement.specs.Monitor.{isLit, answer, freshMonitor, checked, placed, earliest, standing, joins, walk}
 use Rattle.enforcement.specs.Demands.{StandsFor, Demand2}
 use Rattle.retimer.specs.declared.limits.Request.{Request}
@@ -27,7 +27,6 @@ use Rattle.retimer.specs.Reasons.{reasonOf}
 use Rattle.retimer.specs.Checked.{checkedOf}
 use Rattle.retimer.specs.Readings.{waited, located, Standing}
 use Rattle.retimer.specs.Counts.{countsSize}
-use Rattle.retimer.specs.Optimum.{modelOf}
 use Rattle.retimer.specs.View.{bytesOf, automatonOf, pendingOf, view, viewOf, StateSound, StateValid, Valid}
 
 -- Document 01's outcome of each answer.
@@ -73,7 +72,7 @@ dropping q t x = record { state = movedTo q t (q .numbered + 1) x; answer = Drop
 
 -- The lamp by the rule at date t, with these actions pending, and with those that are.
 abbrev pub lampWith : Bytes → State → ℕ → List ℕ → Bool
-lampWith s q t cs = isLit (modelOf s) (standing (view q) t) cs
+lampWith s q t cs = isLit (compile s) (standing (view q) t) cs
 
 abbrev pub lampAt : Bytes → State → ℕ → Bool
 lampAt s q t = lampWith s q t (actionsOf (view q .pending))
@@ -110,7 +109,7 @@ newDates q ds = take (q .held + 1) ds
 
 -- What an offer answers that passed the first checks.
 abbrev pub decidedOf : Bytes → State → ℕ → ℕ → model.Answered
-decidedOf s q c t = checked (modelOf s) (view q) c t true false false false
+decidedOf s q c t = checked (compile s) (view q) c t true false false false
 
 -- What case 1 is given at first: the pending actions with one more, which have a correction, and where it starts.
 pub record CorrectAsked (s : Bytes) (live : List ℕ) (q : State) (t : ℕ) (cs : List ℕ) (start : ℕ) (here : List ℕ) : Type 0 where
@@ -120,7 +119,7 @@ pub record CorrectAsked (s : Bytes) (live : List ℕ) (q : State) (t : ℕ) (cs 
   pub start-is : start ≡ max t (q .last)
   pub here-is : here ≡ waited (start - q .last) (q .readings)
   pub joined : take (q .held + 1) cs ≡ actionsOf (pendingOf q) ++ (lastAction q cs ∷ [])
-  pub correctable : (n : ℕ) × (prospect (modelOf s) (take (q .held + 1) cs) (located (q .location) here) ≡ ticks n)
+  pub correctable : (n : ℕ) × (prospect (compile s) (take (q .held + 1) cs) (located (q .location) here) ≡ ticks n)
 
 -- What it is given then: the pending actions with one more, their dates, the last of them, and the configuration that they reach.
 pub record PlaceAsked (s : Bytes) (live : List ℕ) (q : State) (t : ℕ) (cs ds : List ℕ) (last l : ℕ) (r : List ℕ) : Type 0 where
@@ -130,15 +129,15 @@ pub record PlaceAsked (s : Bytes) (live : List ℕ) (q : State) (t : ℕ) (cs ds
   pub ordered : t ≤ last
   pub joined : take (q .held + 1) cs ≡ actionsOf (pendingOf q) ++ (lastAction q cs ∷ [])
   pub stands : Standing s l r
-  pub reached : located l r ≡ walk (modelOf s .step) (actionsOf (joins (view q) (lastAction q cs) t)) (newDates q ds) (earliest (view q) t) (standing (view q) t)
+  pub reached : located l r ≡ walk (compile s .step) (actionsOf (joins (view q) (lastAction q cs) t)) (newDates q ds) (earliest (view q) t) (standing (view q) t)
 
 -- Case 1 of the model.
 abbrev pub placedOf : Bytes → State → ℕ → List ℕ → List ℕ → ℕ → model.Answered
-placedOf s q t cs ds last = placed (modelOf s) (view q) (lastAction q cs) t (newDates q ds) last (ltb maxDate last) (ltb (maxScheduled - length (view q .schedule)) (length (joins (view q) (lastAction q cs) t)))
+placedOf s q t cs ds last = placed (compile s) (view q) (lastAction q cs) t (newDates q ds) last (ltb maxDate last) (ltb (maxScheduled - length (view q .schedule)) (length (joins (view q) (lastAction q cs) t)))
 
 -- What a call on a state promises: what `CallRight` says, of the state beside its sheet and table.
 pub record MoveRight (s : Bytes) (live : List ℕ) (q : State) (k : Call) (r : Moved) : Type 0 where
-  pub is : movedOf r ≡ answer (modelOf s) (view q) k
+  pub is : movedOf r ≡ answer (compile s) (view q) k
   pub rule : (d : ℕ) (h : History) → StandsFor (automaton s d) (view q) h → Demand2 (automaton s d) h k (movedOf r)
   pub valid : StateValid s live (r .state)
   pub refused-same : (p : Reason) → r .answer ≡ Refused p → r .state ≡ q
@@ -149,7 +148,7 @@ pub record MoveRight (s : Bytes) (live : List ℕ) (q : State) (k : Call) (r : M
 -- stands for the history after it; the box is one, with bytes and table as they were; a refusal hands back the box that came, lamp included, and where nothing is held, scheduled or
 -- played only its date, count and lamp may have moved; "held" has the held list's own length.
 pub record CallRight (b : Monitor) (k : Call) (r : Answered) : Type 0 where
-  pub is : answeredOf r ≡ answer (modelOf (bytesOf b)) (viewOf b) k
+  pub is : answeredOf r ≡ answer (compile (bytesOf b)) (viewOf b) k
   pub rule : (d : ℕ) (h : History) → StandsFor (automatonOf b d) (viewOf b) h → Demand2 (automatonOf b d) h k (answeredOf r)
   pub valid : Valid (r .monitor)
   pub kept : r .monitor ≡ withState b (r .monitor .state)

@@ -8,8 +8,7 @@ use Rattle.enforcement.specs.Limits.{maxCount}
 use Rattle.enforcement.specs.Automaton.{Bytes, locations}
 use Rattle.enforcement.specs.TimedWord.{Configuration}
 use Rattle.enforcement.specs.Loading.{WellFormed}
-use Rattle.enforcement.specs.Model.{top, width, Prospect, ticks, extensible, dead, prospect}
-use Rattle.retimer.specs.Optimum.{modelOf}
+use Rattle.enforcement.specs.Model.{top, width, Prospect, ticks, extensible, dead, prospect, compile}
 
 -- The cost where a list has no correction: one more than the most ticks of a correction.
 abbrev pub never : ℕ
@@ -23,7 +22,7 @@ cost dead = never
 
 -- The least ticks of the actions cs from a configuration; never where they have no correction.
 abbrev pub costAt : Bytes → List ℕ → Configuration → ℕ
-costAt s cs q = cost (prospect (modelOf s) cs q)
+costAt s cs q = cost (prospect (compile s) cs q)
 
 -- With the actions cs played from a configuration that is reached at position u, all ends by w. It is asked of numbers below never alone.
 abbrev pub EndsBy : Bytes → List ℕ → ℕ → ℕ → Configuration → Type 0

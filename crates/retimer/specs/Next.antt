@@ -7,9 +7,9 @@ use lib.ListN.{length, getD}
 use Rattle.enforcement.specs.Automaton.{Bytes, Transition, transitionAt}
 use Rattle.enforcement.specs.Loading.{Fits}
 use Rattle.enforcement.specs.TimedWord.{Configuration, fire}
+use Rattle.enforcement.specs.Model.{compile}
 use Rattle.retimer.specs.Readings.{Valuation}
 use Rattle.retimer.specs.Live.{LiveTable}
-use Rattle.retimer.specs.Optimum.{modelOf}
 use Rattle.retimer.specs.Waits.{firstWait, endWait, along}
 
 -- A transition is for the action c, and there is a wait from its first to below its end, from the readings r on: one that fits is enabled there (`interval`).
@@ -31,7 +31,7 @@ LeadsFor c G x y e t = (t .action ≡ c) × Leads G x y e t
 
 -- It leads to a live configuration.
 abbrev pub LeadsLive : Bytes → List ℕ → Transition → Type 0
-LeadsLive s r t = Leads (λ (u : ℕ) (q : Configuration). modelOf s .live q ≡ true) (getD r 0 0) (getD r 1 0) 0 t
+LeadsLive s r t = Leads (λ (u : ℕ) (q : Configuration). compile s .live q ≡ true) (getD r 0 0) (getD r 1 0) 0 t
 
 -- What is asked for the transition at p.
 pub record LeadsAsked (s : Bytes) (live : List ℕ) (p : ℕ) (r : List ℕ) : Type 0 where

@@ -8,11 +8,10 @@ use lib.ListN.{length, take}
 use Rattle.enforcement.specs.Automaton.{Bytes}
 use Rattle.enforcement.specs.Loading.{WellFormed}
 use Rattle.enforcement.specs.TimedWord.{Configuration}
-use Rattle.enforcement.specs.Model.{Prospect, ticks, extensible, dead, prospect}
+use Rattle.enforcement.specs.Model.{Prospect, ticks, extensible, dead, prospect, compile}
 use Rattle.retimer.specs.declared.outlook.Outlook.{Outlook}
 use Rattle.retimer.specs.declared.outlook.Outlook.the-variants.{Correct, Extensible, Dead}
 use Rattle.retimer.specs.Live.{LiveTable}
-use Rattle.retimer.specs.Optimum.{modelOf}
 use Rattle.retimer.specs.Sets.{Contains, Whole, Reached}
 
 -- The answer for a prospect; x is the lamp without the last action.
@@ -40,11 +39,11 @@ Lives dead = ⊥
 pub record Some (G : Prospect → Type 0) (s : Bytes) (cs set : List ℕ) : Type 0 where
   pub member : Configuration
   pub contained : Contains s set member
-  pub good : G (prospect (modelOf s) cs member)
+  pub good : G (prospect (compile s) cs member)
 
 -- A live member.
 abbrev pub SomeLive : Bytes → List ℕ → Type 0
-SomeLive s set = (q : Configuration) × Contains s set q × (modelOf s .live q ≡ true)
+SomeLive s set = (q : Configuration) × Contains s set q × (compile s .live q ≡ true)
 
 -- The answer by three facts: a prospect has a correction (E), one is not dead (L), and one without the last action is not dead (F).
 abbrev pub OutlookBy : Type 0 → Type 0 → Type 0 → Outlook → Type 0

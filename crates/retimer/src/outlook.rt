@@ -11,10 +11,10 @@ ghost use Prim.Native.Nat.{_+_, _≤_};
 ghost use lib.ListN.{length};
 ghost use Rattle.enforcement.specs.Automaton.{byte, accepting, actions, transitionAt};
 ghost use Rattle.enforcement.specs.Loading.{WellFormed, Fits};
-ghost use Rattle.enforcement.specs.Model.{prospect};
+ghost use Rattle.enforcement.specs.Model.{prospect, compile};
 ghost use Rattle.enforcement.specs.Monitor.{noneNext, isLit};
 ghost use Rattle.retimer.specs.Readings.{Readings, located};
-ghost use Rattle.retimer.specs.Optimum.{modelOf, LampAsked};
+ghost use Rattle.retimer.specs.Optimum.{LampAsked};
 ghost use Rattle.retimer.specs.Outlook.{outlookOf};
 ghost use Rattle.retimer.specs.Next.{Opens, LeadsLive, LeadsAsked};
 
@@ -66,7 +66,7 @@ fn target_accepts(s: &[u8], p: usize) -> bool
 // What a single action comes to and, where it is dead, the lamp without it.
 pub fn single<'a>(s: &'a [u8], live: &'a [u8], c: u8, l: u8, r: [u8; 2]) -> Outlook
     requires { ⌜ LampAsked (now s) (now live) l r ⌝ }
-    ensures { λ o. ⌜ o ≡ outlookOf (prospect (modelOf (now (s .entry))) (c ∷ []) (located l r)) (isLit (modelOf (now (s .entry))) (located l r) []) ⌝ }
+    ensures { λ o. ⌜ o ≡ outlookOf (prospect (compile (now (s .entry))) (c ∷ []) (located l r)) (isLit (compile (now (s .entry))) (located l r) []) ⌝ }
 {
     let pair = 6 + 4 * bytes::wide(l);
     let mut p = bytes::word_at(s, pair);
@@ -95,7 +95,7 @@ pub fn single<'a>(s: &'a [u8], live: &'a [u8], c: u8, l: u8, r: [u8; 2]) -> Outl
 // Whether any next action can lead to a live configuration.
 fn any_next<'a>(s: &'a [u8], live: &'a [u8], l: u8, r: [u8; 2]) -> bool
     requires { ⌜ LampAsked (now s) (now live) l r ⌝ }
-    ensures { λ b. ⌜ not b ≡ noneNext (modelOf (now (s .entry))) (located l r) (actions (now (s .entry))) ⌝ }
+    ensures { λ b. ⌜ not b ≡ noneNext (compile (now (s .entry))) (located l r) (actions (now (s .entry))) ⌝ }
 {
     let pair = 6 + 4 * bytes::wide(l);
     let mut p = bytes::word_at(s, pair);
@@ -112,7 +112,7 @@ fn any_next<'a>(s: &'a [u8], live: &'a [u8], l: u8, r: [u8; 2]) -> bool
 // None of the actions can come next.
 pub fn none_next<'a>(s: &'a [u8], live: &'a [u8], l: u8, r: [u8; 2]) -> bool
     requires { ⌜ LampAsked (now s) (now live) l r ⌝ }
-    ensures { λ b. ⌜ b ≡ noneNext (modelOf (now (s .entry))) (located l r) (actions (now (s .entry))) ⌝ }
+    ensures { λ b. ⌜ b ≡ noneNext (compile (now (s .entry))) (located l r) (actions (now (s .entry))) ⌝ }
 {
     !any_next(s, live, l, r)
 }

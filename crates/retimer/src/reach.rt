@@ -9,10 +9,10 @@ ghost use mathlib.Core.Path.{_≡_};
 ghost use Prim.Native.Nat.{_<_};
 ghost use lib.ListN.{length, drop};
 ghost use Rattle.enforcement.specs.Automaton.{clocks};
-ghost use Rattle.enforcement.specs.Model.{prospect};
+ghost use Rattle.enforcement.specs.Model.{prospect, compile};
 ghost use Rattle.enforcement.specs.Monitor.{isDead, isLit};
 ghost use Rattle.retimer.specs.Readings.{located};
-ghost use Rattle.retimer.specs.Optimum.{modelOf, LampAsked};
+ghost use Rattle.retimer.specs.Optimum.{LampAsked};
 ghost use Rattle.retimer.specs.Sets.{Empty};
 ghost use Rattle.retimer.specs.Outlook.{outlookOf, frontOf, Rated, RatedLast, SetAsked, Searched};
 
@@ -68,7 +68,7 @@ fn outlook_in(
     next: &mut [u64],
 ) -> Outlook
     requires { ⌜ ((LampAsked (now s) (now live) l r) × (1 < length (now cs))) × ((Empty (now s) (now set)) × (Empty (now s) (now next))) ⌝ }
-    ensures { λ o. ⌜ o ≡ outlookOf (prospect (modelOf (now (s .entry))) (now (cs .entry)) (located l r)) (isLit (modelOf (now (s .entry))) (located l r) (frontOf (now (cs .entry)))) ⌝ }
+    ensures { λ o. ⌜ o ≡ outlookOf (prospect (compile (now (s .entry))) (now (cs .entry)) (located l r)) (isLit (compile (now (s .entry))) (located l r) (frontOf (now (cs .entry)))) ⌝ }
 {
     let places = play::begin(s, l, r, set);
     outlook_from(s, live, cs, 0, set, places, next)
@@ -77,7 +77,7 @@ fn outlook_in(
 // With one clock a set is small.
 fn outlook_one_clock(s: &[u8], live: &[u8], cs: &[u8], l: u8, r: [u8; 2]) -> Outlook
     requires { ⌜ ((LampAsked (now s) (now live) l r) × (1 < length (now cs))) × (clocks (now s) ≡ 1) ⌝ }
-    ensures { λ o. ⌜ o ≡ outlookOf (prospect (modelOf (now (s .entry))) (now (cs .entry)) (located l r)) (isLit (modelOf (now (s .entry))) (located l r) (frontOf (now (cs .entry)))) ⌝ }
+    ensures { λ o. ⌜ o ≡ outlookOf (prospect (compile (now (s .entry))) (now (cs .entry)) (located l r)) (isLit (compile (now (s .entry))) (located l r) (frontOf (now (cs .entry)))) ⌝ }
 {
     let mut set = [0u64; sets::SIZE_OF_ONE_CLOCK];
     let mut next = [0u64; sets::SIZE_OF_ONE_CLOCK];
@@ -88,7 +88,7 @@ fn outlook_one_clock(s: &[u8], live: &[u8], cs: &[u8], l: u8, r: [u8; 2]) -> Out
 // With two clocks it is not.
 fn outlook_two_clocks(s: &[u8], live: &[u8], cs: &[u8], l: u8, r: [u8; 2]) -> Outlook
     requires { ⌜ ((LampAsked (now s) (now live) l r) × (1 < length (now cs))) × (clocks (now s) ≡ 1 → ⊥) ⌝ }
-    ensures { λ o. ⌜ o ≡ outlookOf (prospect (modelOf (now (s .entry))) (now (cs .entry)) (located l r)) (isLit (modelOf (now (s .entry))) (located l r) (frontOf (now (cs .entry)))) ⌝ }
+    ensures { λ o. ⌜ o ≡ outlookOf (prospect (compile (now (s .entry))) (now (cs .entry)) (located l r)) (isLit (compile (now (s .entry))) (located l r) (frontOf (now (cs .entry)))) ⌝ }
 {
     let mut set = [0u64; sets::SIZE];
     let mut next = [0u64; sets::SIZE];
@@ -99,7 +99,7 @@ fn outlook_two_clocks(s: &[u8], live: &[u8], cs: &[u8], l: u8, r: [u8; 2]) -> Ou
 // What a list of actions comes to from a configuration.
 pub fn outlook_of<'a>(s: &'a [u8], live: &'a [u8], cs: &[u8], l: u8, r: [u8; 2]) -> Outlook
     requires { ⌜ (LampAsked (now s) (now live) l r) × (0 < length (now cs)) ⌝ }
-    ensures { λ o. ⌜ o ≡ outlookOf (prospect (modelOf (now (s .entry))) (now (cs .entry)) (located l r)) (isLit (modelOf (now (s .entry))) (located l r) (frontOf (now (cs .entry)))) ⌝ }
+    ensures { λ o. ⌜ o ≡ outlookOf (prospect (compile (now (s .entry))) (now (cs .entry)) (located l r)) (isLit (compile (now (s .entry))) (located l r) (frontOf (now (cs .entry)))) ⌝ }
 {
     if cs.len() == 1 {
         return outlook::single(s, live, cs[0], l, r);
@@ -113,7 +113,7 @@ pub fn outlook_of<'a>(s: &'a [u8], live: &'a [u8], cs: &[u8], l: u8, r: [u8; 2])
 // Whether nothing can bring acceptance after these actions.
 pub fn is_dead<'a>(s: &'a [u8], live: &'a [u8], cs: &[u8], l: u8, r: [u8; 2]) -> bool
     requires { ⌜ (LampAsked (now s) (now live) l r) × (0 < length (now cs)) ⌝ }
-    ensures { λ b. ⌜ b ≡ isDead (prospect (modelOf (now (s .entry))) (now (cs .entry)) (located l r)) ⌝ }
+    ensures { λ b. ⌜ b ≡ isDead (prospect (compile (now (s .entry))) (now (cs .entry)) (located l r)) ⌝ }
 {
     let o = outlook_of(s, live, cs, l, r);
     match o {

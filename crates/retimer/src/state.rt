@@ -18,8 +18,8 @@ ghost use lib.Dec.{leb};
 ghost use lib.ListN.{length};
 ghost use Rattle.enforcement.specs.Limits.{maxCount, maxScheduled, maxDate, maxNumbered};
 ghost use Rattle.enforcement.specs.History.{actionsOf, offer, collect};
+ghost use Rattle.enforcement.specs.Model.{compile};
 ghost use Rattle.enforcement.specs.Monitor.{joins, kept, oldest};
-ghost use Rattle.retimer.specs.Optimum.{modelOf};
 ghost use Rattle.retimer.specs.View.{view, StateSound, StateValid};
 ghost use Rattle.retimer.specs.Calls.{initialState, refusal, dropping, lampWith, lampAt, Done, lastAction, decidedOf, CorrectAsked, PlaceAsked, placedOf, MoveRight};
 
@@ -165,7 +165,7 @@ impl State {
     // Case 2: one more action is pending, where there is room. What is held can still come to acceptance, so the lamp is dark.
     fn hold<'a>(mut self, s: &'a [u8], live: &'a [u8], c: u8, t: u32) -> Moved
         requires { ⌜ ((StateSound (now s) (now live) self) × ((t ≤ maxDate) × (self .numbered < maxNumbered))) × (lampWith (now s) self t (actionsOf (joins (view self) c t)) ≡ false) ⌝ }
-        ensures { λ r. ⌜ Done (now (s .entry)) (now (live .entry)) self (kept (modelOf (now (s .entry))) (view self) c t (leb maxCount (length (view self .pending)))) r ⌝ }
+        ensures { λ r. ⌜ Done (now (s .entry)) (now (live .entry)) self (kept (compile (now (s .entry))) (view self) c t (leb maxCount (length (view self .pending)))) r ⌝ }
     {
         let n = self.held;
         if Monitor::COUNT <= n {
@@ -341,7 +341,7 @@ impl State {
     // A collection that passed the first checks.
     fn play<'a>(mut self, s: &'a [u8], live: &'a [u8], t: u32) -> Moved
         requires { ⌜ (StateValid (now s) (now live) self) × ((self .date ≤ t) × (t ≤ maxDate)) ⌝ }
-        ensures { λ r. ⌜ Done (now (s .entry)) (now (live .entry)) self (oldest (modelOf (now (s .entry))) (view self) t (view self .schedule)) r ⌝ }
+        ensures { λ r. ⌜ Done (now (s .entry)) (now (live .entry)) self (oldest (compile (now (s .entry))) (view self) t (view self .schedule)) r ⌝ }
     {
         let lit = self.lit_at(s, live, t);
         let n = self.planned;

@@ -1,6 +1,5 @@
 -- `reach::is_dead` meets its contract. By the three answers. Assumes nothing.
-use Rattle.enforcement.specs.Model.{prospect}
-use Rattle.retimer.specs.Optimum.{modelOf}
+use Rattle.enforcement.specs.Model.{prospect, compile}
 use Rattle.retimer.specs.Readings.{located}
 use Rattle.retimer.proofs.Outlooks.{dead-answer}
 use borrow.Author.Needs.{needs}
@@ -20,13 +19,13 @@ enum-told-3 : tie.Need-enum-told-3
 enum-told-3 c = search needs
 
 returns : tie.Need-returns
-returns c = dead-answer (prospect (modelOf (c .before .before .before .before .before .before .args .s .now)) (c .before .before .before .before .before .before .args .cs .now) (located (c .before .before .before .before .before .before .args .l) (c .before .before .before .before .before .before .args .r))) _ (c .enum-told .given .1) (c .before .before .outlook-of .ensures)
+returns c = dead-answer (prospect (compile (c .before .before .before .before .before .before .args .s .now)) (c .before .before .before .before .before .before .args .cs .now) (located (c .before .before .before .before .before .before .args .l) (c .before .before .before .before .before .before .args .r))) _ (c .enum-told .given .1) (c .before .before .outlook-of .ensures)
 
 returns-2 : tie.Need-returns-2
-returns-2 c = dead-answer (prospect (modelOf (c .before .before .before .before .before .before .args .s .now)) (c .before .before .before .before .before .before .args .cs .now) (located (c .before .before .before .before .before .before .args .l) (c .before .before .before .before .before .before .args .r))) _ (c .enum-told2 .given .1) (c .before .before .outlook-of .ensures)
+returns-2 c = dead-answer (prospect (compile (c .before .before .before .before .before .before .args .s .now)) (c .before .before .before .before .before .before .args .cs .now) (located (c .before .before .before .before .before .before .args .l) (c .before .before .before .before .before .before .args .r))) _ (c .enum-told2 .given .1) (c .before .before .outlook-of .ensures)
 
 returns-3 : tie.Need-returns-3
-returns-3 c = dead-answer (prospect (modelOf (c .before .before .before .before .before .before .args .s .now)) (c .before .before .before .before .before .before .args .cs .now) (located (c .before .before .before .before .before .before .args .l) (c .before .before .before .before .before .before .args .r))) _ (c .enum-told3 .given .1) (c .before .before .outlook-of .ensures)
+returns-3 c = dead-answer (prospect (compile (c .before .before .before .before .before .before .args .s .now)) (c .before .before .before .before .before .before .args .cs .now) (located (c .before .before .before .before .before .before .args .l) (c .before .before .before .before .before .before .args .r))) _ (c .enum-told3 .given .1) (c .before .before .outlook-of .ensures)
 
 pub is-dead-spec : {M : Type 1} → statement M
 is-dead-spec =

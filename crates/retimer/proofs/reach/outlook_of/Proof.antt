@@ -3,11 +3,10 @@ use mathlib.Core.Path.{ap, sym, _∙_}
 use mathlib.Core.List.{List}
 use Prim.Native.Nat.{ℕ}
 use native.Mathlib.Omega.{arith}
-use Rattle.enforcement.specs.Model.{prospect}
+use Rattle.enforcement.specs.Model.{prospect, compile}
 use Rattle.enforcement.specs.Monitor.{isLit}
 use Rattle.enforcement.proofs.Loading.{size-fits}
 use Rattle.retimer.specs.Readings.{located}
-use Rattle.retimer.specs.Optimum.{modelOf}
 use Rattle.retimer.specs.Outlook.{outlookOf, frontOf}
 use Rattle.retimer.proofs.Outlooks.{one-action}
 use borrow.Author.Needs.{needs}
@@ -23,7 +22,7 @@ single-requires c κs = search needs
 returns : tie.Need-returns
 returns c =
     let a = c .before .before .before .before .before .before in
-    c .single .ensures ∙ ap (λ (cs : List ℕ). outlookOf (prospect (modelOf (a .args .s .now)) cs (located (a .args .l) (a .args .r))) (isLit (modelOf (a .args .s .now)) (located (a .args .l) (a .args .r)) (frontOf cs))) (sym (one-action (a .args .cs .now) (c .before .before .if1 .taken)))
+    c .single .ensures ∙ ap (λ (cs : List ℕ). outlookOf (prospect (compile (a .args .s .now)) cs (located (a .args .l) (a .args .r))) (isLit (compile (a .args .s .now)) (located (a .args .l) (a .args .r)) (frontOf cs))) (sym (one-action (a .args .cs .now) (c .before .before .if1 .taken)))
 
 shared-slice-read-if2 : tie.Need-shared-slice-read-if2
 shared-slice-read-if2 c = omega (arith, size-fits _ (c .before .before .before .before .before .pre .0 .loads))

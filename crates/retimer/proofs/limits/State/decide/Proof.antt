@@ -7,9 +7,8 @@ use native.Mathlib.Omega.{arith}
 use native.Mathlib.Numerals.{add-one}
 use lib.ListN.{take, set, length-set}
 use lib.Seq.{length-take-le, take-suc-set}
-use Rattle.enforcement.specs.Model.{Prospect, prospect}
+use Rattle.enforcement.specs.Model.{Prospect, prospect, compile}
 use Rattle.retimer.specs.Readings.{located}
-use Rattle.retimer.specs.Optimum.{modelOf}
 use Rattle.retimer.specs.Calls.{decidedOf}
 use Rattle.retimer.proofs.Views.{done-same, dropped-done}
 use Rattle.retimer.proofs.Outlooks.{correct-prospect, extensible-prospect, dead-prospect, dead-lamp}
@@ -43,7 +42,7 @@ worked w =
 abbrev sought : tie.After-actions → Prospect
 sought w =
     let a = w .before .before .before .before .before .before .before .args in
-    prospect (modelOf (a .s .now)) (take (a .self .held + 1) (asked w)) (located (a .self .location) (w .before .wait-many .result))
+    prospect (compile (a .s .now)) (take (a .self .held + 1) (asked w)) (located (a .self .location) (w .before .wait-many .result))
 
 earliest-requires : tie.Need-earliest-requires
 earliest-requires c κs = search needs

@@ -4,9 +4,9 @@ use mathlib.Core.Path.{ap, sym, _∙_}
 use native.Mathlib.Omega.{arith}
 use lib.Seq.{length-take-le}
 use borrow.Author.Needs.{needs}
+use Rattle.enforcement.specs.Model.{compile}
 use Rattle.enforcement.specs.Monitor.{isLit}
 use Rattle.retimer.specs.Readings.{located}
-use Rattle.retimer.specs.Optimum.{modelOf}
 use Rattle.retimer.proofs.CallLaws.{lamp-later, lamp-same}
 use Rattle.retimer.proofs.Decisions.{lamp-asked, lamp-as}
 use Rattle.retimer.proofs.limits.State.lit_at.Statement.{statement}
@@ -56,7 +56,7 @@ returns-3 : tie.Need-returns-3
 returns-3 c =
     let a = c .before .before .before .before .before .before .before .before .before .before .before .before .args in
     let r = c .before .before .before .before .wait-many in
-    lamp-as (a .s .now) (a .self) (a .t) _ _ _ (c .before .before .before .before .before .before .before .before .earliest .ensures) (r .ensures .0) (c .is-lit .ensures ∙ ap (isLit (modelOf (a .s .now)) (located (a .self .location) (r .result))) (c .before .before .actions .ensures))
+    lamp-as (a .s .now) (a .self) (a .t) _ _ _ (c .before .before .before .before .before .before .before .before .earliest .ensures) (r .ensures .0) (c .is-lit .ensures ∙ ap (isLit (compile (a .s .now)) (located (a .self .location) (r .result))) (c .before .before .actions .ensures))
 
 pub lit-at-spec : {M : Type 1} → statement M
 lit-at-spec =
