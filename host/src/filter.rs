@@ -1,4 +1,5 @@
-//! A command that turns a file, or standard input, into standard output.
+//! A command that turns a file, or standard input, into standard output; or two
+//! files.
 
 use std::ffi::{OsStr, OsString};
 use std::io::{self, Read, Write};
@@ -8,6 +9,12 @@ use std::process::ExitCode;
 pub struct Filter {
     pub name: &'static str,
     pub usage: &'static str,
+}
+
+/// What was read, and where from.
+pub struct Input {
+    pub name: String,
+    pub bytes: Vec<u8>,
 }
 
 /// The output, or the messages against the input, as they follow its name.
@@ -29,16 +36,44 @@ impl Filter {
             eprintln!("{}", self.usage);
             return ExitCode::from(2);
         };
-        let input = match file {
-            Some(file) => file.to_string_lossy(),
+        match self.read(file) {
+            Ok(input) => self.tell(&input.name, convert(task, &input.bytes)),
+            Err(status) => status,
+        }
+    }
+
+    /// The same for two files. The messages name the file that they are about.
+    pub fn run_two<T>(
+        &self,
+        parse: impl Fn(&[OsString]) -> Option<(T, &[OsString])>,
+        convert: impl Fn(T, &[Input; 2]) -> Filtered,
+    ) -> ExitCode {
+        let arguments: Vec<OsString> = std::env::args_os().skip(1).collect();
+        let parsed = parse(&arguments).and_then(|(task, rest)| Some((task, two_files(rest)?)));
+        let Some((task, [first, second])) = parsed else {
+            eprintln!("{}", self.usage);
+            return ExitCode::from(2);
+        };
+        let first = self.read(Some(first));
+        match first.and_then(|first| Ok([first, self.read(Some(second))?])) {
+            Ok(inputs) => self.tell("", convert(task, &inputs)),
+            Err(status) => status,
+        }
+    }
+
+    /// Reads a file, or standard input. What cannot be read gets a message, and
+    /// the exit status is given.
+    fn read(&self, file: Option<&OsStr>) -> Result<Input, ExitCode> {
+        let name = match file {
+            Some(file) => file.to_string_lossy().into_owned(),
             None => "standard input".into(),
         };
         match read(file) {
-            Ok(bytes) => self.tell(&input, convert(task, &bytes)),
+            Ok(bytes) => Ok(Input { name, bytes }),
             Err(error) => {
-                let (name, usage) = (self.name, self.usage);
-                eprintln!("{name}: {input} cannot be read: {error}\n{usage}");
-                ExitCode::from(2)
+                let (command, usage) = (self.name, self.usage);
+                eprintln!("{command}: {name} cannot be read: {error}\n{usage}");
+                Err(ExitCode::from(2))
             }
         }
     }
@@ -69,9 +104,21 @@ impl Filter {
 fn file(words: &[OsString]) -> Option<Option<&OsStr>> {
     match words {
         [] => Some(None),
-        [file] if !file.as_encoded_bytes().starts_with(b"-") => Some(Some(file)),
+        [file] if !is_flag(file) => Some(Some(file)),
         _ => None,
     }
+}
+
+/// The two files that words name.
+fn two_files(words: &[OsString]) -> Option<[&OsStr; 2]> {
+    match words {
+        [first, second] if !is_flag(first) && !is_flag(second) => Some([first, second]),
+        _ => None,
+    }
+}
+
+fn is_flag(word: &OsStr) -> bool {
+    word.as_encoded_bytes().starts_with(b"-")
 }
 
 fn read(file: Option<&OsStr>) -> io::Result<Vec<u8>> {

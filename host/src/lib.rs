@@ -1,6 +1,7 @@
 //! The second program of the command retimer: an automaton reader, a monitor
 //! that retimes actions, another one written for speed, the desk program's
-//! lines, and random desk inputs; and the conversion of logs, with random logs.
+//! lines, and random desk inputs; the conversion of logs, with random logs; and
+//! the product of two sheets, with random pairs.
 
 pub mod bench;
 pub mod compare;
@@ -10,12 +11,14 @@ pub mod desk;
 pub mod fast;
 pub mod filter;
 pub mod generate;
+pub mod lent;
 pub mod limits;
 pub mod lines;
 pub mod loading;
 pub mod log;
 pub mod monitor;
 pub mod pieces;
+pub mod product;
 pub mod question;
 pub mod random;
 pub mod refusal;

@@ -1,4 +1,5 @@
-//! The reasons for which a load, a call or a conversion of a log refuses.
+//! The reasons for which a load, a call, a conversion of a log or a join of two
+//! sheets refuses.
 
 use std::fmt;
 
@@ -16,6 +17,9 @@ pub enum Refusal {
     I9,
     I10,
     I11,
+    I12,
+    I13,
+    I14,
     S1,
     S2,
     S3,
@@ -38,12 +42,28 @@ impl Refusal {
             Refusal::I9 => "I-9",
             Refusal::I10 => "I-10",
             Refusal::I11 => "I-11",
+            Refusal::I12 => "I-12",
+            Refusal::I13 => "I-13",
+            Refusal::I14 => "I-14",
             Refusal::S1 => "S-1",
             Refusal::S2 => "S-2",
             Refusal::S3 => "S-3",
             Refusal::S4 => "S-4",
             Refusal::S5 => "S-5",
         }
+    }
+
+    /// What a function for host programs hands back for a reason: minus the number
+    /// after "I-". The state has no reasons there.
+    pub fn result(self) -> Option<i32> {
+        let number: i32 = self.name().strip_prefix("I-")?.parse().ok()?;
+        Some(-number)
+    }
+
+    /// The reason, among those that a function has, that its result stands for.
+    pub fn of_result(reasons: &[Refusal], result: i32) -> Option<Refusal> {
+        let mut reasons = reasons.iter().copied();
+        reasons.find(|reason| reason.result() == Some(result))
     }
 }
 

@@ -10,6 +10,11 @@ pub struct Seeds<K> {
     pub kinds: Vec<K>,
 }
 
+/// A kind of inputs, which has a name.
+pub trait Named {
+    fn name(&self) -> &'static str;
+}
+
 impl<K> Seeds<K> {
     /// Reads `SEEDS [FIRST_SEED [KIND]..]`; nothing if the words are wrong.
     pub fn parse(words: &[OsString], named: impl Fn(&str) -> Option<K>) -> Option<Self> {

@@ -9,7 +9,7 @@ use host::generate::KINDS;
 use host::limits::LAST_DATE;
 use host::loading::Loading;
 use host::monitor::Monitor;
-use host::question::{decode, decode_as, encode, loading, Checks};
+use host::question::{decode, decode_as, decode_sheet, encode, encode_sheet, loading, Checks};
 use host::random::Random;
 use host::refusal::Refusal;
 use host::sheet;
@@ -1108,6 +1108,57 @@ fn require_no_text(input: &[u8], words: &[&str]) {
 }
 
 // The program.
+
+#[test]
+fn sheets_alone() {
+    let sheets = [
+        (A_TEXT, A),
+        (B_TEXT, B),
+        (C_TEXT, C),
+        (D_TEXT, D),
+        (E_TEXT, E),
+    ];
+    for (text, bytes) in sheets {
+        assert_eq!(encode_sheet(text, Checks::All), Ok(bytes.to_vec()));
+        let text = decode_sheet(bytes, |location| format!("from {location}"));
+        let text = text.expect("a text gives the sheet");
+        assert_eq!(encode_sheet(&text, Checks::All), Ok(bytes.to_vec()));
+    }
+    let text = decode_sheet(E, |location| format!("from {location}"));
+    let expected = "locations 2\nclocks 1\ncommands 2\ninitial 0\naccepting 1\n\n\
+                    # from 0\nrule 0 -> 0 on 0\nrule 0 -> 1 on 1\n\n\
+                    # from 1\n";
+    assert_eq!(text.as_deref(), Ok(expected));
+    assert!(decode_sheet(&E[..13], |_| String::new()).is_err());
+}
+
+/// The mistakes of a sheet's text, each with its line.
+fn sheet_mistakes(text: &str) -> Vec<String> {
+    let mistakes = encode_sheet(text, Checks::All).expect_err("it has mistakes");
+    mistakes.iter().map(ToString::to_string).collect()
+}
+
+/// The first of each sort gets a message, whatever its words are.
+#[test]
+fn sheets_alone_have_no_calls() {
+    let text = "loaded\noffer 1\ncollect at 3\nloaded at 5\ntail 300\ntail\n";
+    let lines = E_TEXT.lines().count();
+    let expected = [
+        (
+            1,
+            "`loaded` is out of place; a sheet alone has no loading date",
+        ),
+        (2, "`offer` is out of place; a sheet alone has no calls"),
+        (5, "`tail` is out of place; a sheet alone has no tail"),
+    ];
+    let expected = expected.map(|(line, message)| format!("line {}: {message}", lines + line));
+    assert_eq!(sheet_mistakes(&format!("{E_TEXT}{text}")), expected);
+    // Rules after a call are those of a sheet with a call too many.
+    let between = E_TEXT.replace("accepting 1\n", "accepting 1\ncollect at 9\n");
+    let found = sheet_mistakes(&between);
+    assert!(found[0].ends_with("`collect` is out of place; a sheet alone has no calls"));
+    assert_eq!(sheet_mistakes("").len(), 1);
+}
 
 fn call(arguments: &[&str], input: &[u8]) -> Output {
     call_with(QUESTION, arguments, input)

@@ -2,3 +2,6 @@
 
 // The conversion of logs.
 pub mod log;
+
+// Sheets.
+pub mod sheet;

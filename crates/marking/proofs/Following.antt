@@ -15,11 +15,12 @@ use Rattle.enforcement.specs.History.{Call}
 use Rattle.enforcement.specs.Model.{Compiled, compile}
 use Rattle.enforcement.specs.Monitor.{answer, replay}
 use Rattle.enforcement.specs.Monitor as model
-use Rattle.report.specs.Texts.{ascii, numeral, Wrote}
+use Rattle.retimer.specs.Bytes.{Wrote}
+use Rattle.report.specs.Texts.{ascii, numeral}
 use Rattle.report.specs.Lines.{outcomeText, answerText, callLine, lampText, tailLine}
 use Rattle.report.proofs.Numerals.{numeral-few}
 use Rattle.report.proofs.LineLaws.{answer-few, tail-few}
-use Rattle.report.proofs.Writing.{next, as-text, writes-none}
+use Rattle.retimer.proofs.Writing.{next, as-part, writes-none}
 use Rattle.retimer.specs.declared.limits.State.{State}
 use Rattle.retimer.specs.declared.limits.Monitor.{Monitor}
 use Rattle.retimer.specs.declared.state.Answer.{Answer}
@@ -198,7 +199,7 @@ module _ {start : Monitor} {s : Bytes} {n : ℕ} {before out : List ℕ} {q : St
   finishes {out′} {size} f room wrote kept =
       let fits : size ≤ length out′ = omega (arith, wrote .ends, g .few, g .inside, g .sized, kept, tail-few (length s - i)) in
       record {
-        wrote = as-text (next (omega (arith, g .few, g .inside)) (g .wrote) wrote) (ap (λ (t : List ℕ). t ++ tailLine (length s - i)) text-all ∙ ap (λ (j : ℕ). linesOf (compile (bytesOf start)) (viewOf start) n (callsOf s) ++ tailLine j) left-over);
+        wrote = as-part (next (omega (arith, g .few, g .inside)) (g .wrote) wrote) (ap (λ (t : List ℕ). t ++ tailLine (length s - i)) text-all ∙ ap (λ (j : ℕ). linesOf (compile (bytesOf start)) (viewOf start) n (callsOf s) ++ tailLine j) left-over);
         counts = (fits, sym (length-take-le size out′ fits));
         calls-are = omega (arith, g .made-is, all-done);
         monitor-is = monitor-all;

@@ -12,9 +12,9 @@ use Rattle.enforcement.specs.Loading as loading
 use Rattle.enforcement.specs.Model.{compile}
 use Rattle.enforcement.specs.Monitor.{freshMonitor}
 use Rattle.enforcement.specs.Monitor as model
-use Rattle.report.specs.Texts.{Wrote}
+use Rattle.retimer.specs.Bytes.{Wrote}
 use Rattle.report.specs.Lines.{checkedLine}
-use Rattle.report.proofs.Writing.{next}
+use Rattle.retimer.proofs.Writing.{next}
 use Rattle.retimer.specs.declared.limits.Monitor.{Monitor}
 use Rattle.retimer.specs.declared.reason.Reason.{Reason}
 use Rattle.retimer.specs.declared.sheet.Counts.{Counts}

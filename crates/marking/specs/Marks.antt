@@ -15,7 +15,7 @@ use Rattle.enforcement.specs.Model.{Compiled, compile}
 use Rattle.enforcement.specs.Monitor.{freshMonitor, answer, replay}
 use Rattle.enforcement.specs.Monitor as model
 use Rattle.io.specs.Counts.{Counts}
-use Rattle.report.specs.Texts.{Wrote}
+use Rattle.retimer.specs.Bytes.{Wrote}
 use Rattle.report.specs.Lines.{sheetLine, refusedLine, outcomeText, callLine, tailLine}
 use Rattle.retimer.specs.declared.limits.Monitor.{Monitor}
 use Rattle.retimer.specs.Bytes.{doubleWord}

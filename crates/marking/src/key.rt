@@ -6,7 +6,7 @@ use retimer::sheet::Checked;
 ghost use Prim.Native.Nat.{_+_, _*_, _/_, _≤_};
 ghost use lib.ListN.{length};
 ghost use Rattle.io.specs.Counts.{Counts};
-ghost use Rattle.report.specs.Texts.{Wrote};
+ghost use Rattle.retimer.specs.Bytes.{Wrote};
 ghost use Rattle.marking.specs.Marks.{keyText};
 
 // Writes the line of the sheet and, where it loads at that date, those of the calls; answers the text's size.

@@ -1,3 +1,3 @@
 pub mod LineLaws
 pub mod Numerals
-pub mod Writing
+pub mod Counting

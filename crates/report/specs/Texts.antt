@@ -1,12 +1,10 @@
--- Text as lists of ASCII codes, and text at a place of a buffer.
-use mathlib.Core.Path.{_≡_}
+-- Text as lists of ASCII codes.
 use mathlib.Core.Bool.{cond}
 use mathlib.Core.List.{List, [], _∷_, _++_}
 use Prim.Native.Nat.{ℕ, zero, suc, _+_, _/_, _%_}
 use Prim.Native.Char.{code}
 use Prim.Native.String.{String, [] as none, _∷_ as _then_}
 use lib.Dec.{ltb}
-use lib.ListN.{length, take, drop}
 
 -- The codes of a text.
 abbrev pub ascii : String → List ℕ
@@ -25,8 +23,3 @@ numeral n = digitsOf 20 n
 -- A word and a number after it.
 abbrev pub figure : String → ℕ → List ℕ
 figure w n = ascii w ++ numeral n
-
--- The text stands in the buffer from a place on, the rest is as before, and the place after it is answered.
-pub record Wrote (before : List ℕ) (at : ℕ) (text after : List ℕ) (end : ℕ) : Type 0 where
-  pub is : after ≡ take at before ++ text ++ drop (at + length text) before
-  pub ends : end ≡ at + length text

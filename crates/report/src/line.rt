@@ -1,7 +1,7 @@
 // The desk program's lines, as text at a place of a lent buffer. Each function answers the place after what it put.
-use crate::text::put;
 use crate::text::put_figure;
 use crate::text::put_number;
+use retimer::bytes::put;
 use retimer::limits::Slot;
 use retimer::reason::Reason;
 use retimer::sheet::Checked;
@@ -14,7 +14,8 @@ ghost use lib.ListN.{length};
 ghost use Rattle.retimer.specs.declared.state.Answer.the-variants.{Played};
 ghost use Rattle.retimer.specs.Reasons.{reasonOf};
 ghost use Rattle.retimer.specs.Checked.{figuresOf, checkedOf};
-ghost use Rattle.report.specs.Texts.{ascii, numeral, figure, Wrote};
+ghost use Rattle.retimer.specs.Bytes.{Wrote};
+ghost use Rattle.report.specs.Texts.{ascii, numeral, figure};
 ghost use Rattle.report.specs.Lines.{reasonText, headerText, sheetLine, refusedLine, checkedLine, answerText, lampText, callLine, tailLine};
 
 // Room for a call's line, and for a sheet's.

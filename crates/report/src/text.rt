@@ -1,24 +1,13 @@
-// Text at a place of a lent buffer. Each function answers the place after what it put.
+// Numbers as text at a place of a lent buffer. Each function answers the place after what it put.
+use retimer::bytes::put;
 ghost use mathlib.Core.List.{_++_};
 ghost use Prim.Native.Nat.{_+_, _≤_};
 ghost use lib.ListN.{length};
-ghost use Rattle.report.specs.Texts.{numeral, Wrote};
+ghost use Rattle.retimer.specs.Bytes.{Wrote};
+ghost use Rattle.report.specs.Texts.{numeral};
 
 // The most digits of a number.
 pub const DIGITS: usize = 20;
-
-// Bytes as they are.
-pub fn put(out: &mut [u8], at: usize, text: &[u8]) -> usize
-    requires { ⌜ at + length (now text) ≤ length (now out) ⌝ }
-    ensures { λ r. ⌜ Wrote (now (out .entry)) at (now (text .entry)) (now (out .exit)) r ⌝ }
-{
-    let mut i: usize = 0;
-    while i < text.len() {
-        out[at + i] = text[i];
-        i += 1;
-    }
-    at + i
-}
 
 // A number, in decimal digits.
 pub fn put_number(out: &mut [u8], at: usize, n: u64) -> usize

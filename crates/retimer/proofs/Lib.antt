@@ -3,6 +3,7 @@ pub mod Transitions
 pub mod Left
 pub mod SheetLaws
 pub mod Arrays
+pub mod Writing
 pub mod LocationSets
 pub mod Places
 pub mod LiveTable

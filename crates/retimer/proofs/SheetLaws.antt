@@ -114,7 +114,7 @@ module _ (low high : ℕ) where
 
 -- ---- Transitions that lie back to back
 
-from-step : (s : Bytes) (n p : ℕ) → 0 < n → transitionsFrom s n p ≡ transitionAt s p ∷ transitionsFrom s (n - 1) (p + 7)
+pub from-step : (s : Bytes) (n p : ℕ) → 0 < n → transitionsFrom s n p ≡ transitionAt s p ∷ transitionsFrom s (n - 1) (p + 7)
 from-step s zero p h = absurd (omega arith)
 from-step s (suc n) p h = rw sub-one
 

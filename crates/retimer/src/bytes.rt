@@ -1,9 +1,9 @@
-// Numbers read from bytes.
+// Numbers read from bytes, and bytes put at a place.
 ghost use mathlib.Core.Path.{_≡_};
 ghost use Prim.Native.Nat.{_+_, _≤_, _<_};
 ghost use lib.ListN.{length};
 ghost use Rattle.enforcement.specs.Automaton.{word};
-ghost use Rattle.retimer.specs.Bytes.{doubleWord};
+ghost use Rattle.retimer.specs.Bytes.{doubleWord, Wrote};
 
 // A byte as an index.
 pub fn wide(b: u8) -> usize
@@ -28,4 +28,17 @@ pub fn double_word_at(s: &[u8], i: usize) -> u32
     let low = word_at(s, i) as u32;
     let high = word_at(s, i + 2) as u32;
     low + 65536 * high
+}
+
+// Puts bytes at a place of a lent buffer; the rest is as before. Answers the place after them.
+pub fn put(out: &mut [u8], at: usize, part: &[u8]) -> usize
+    requires { ⌜ at + length (now part) ≤ length (now out) ⌝ }
+    ensures { λ r. ⌜ Wrote (now (out .entry)) at (now (part .entry)) (now (out .exit)) r ⌝ }
+{
+    let mut i: usize = 0;
+    while i < part.len() {
+        out[at + i] = part[i];
+        i += 1;
+    }
+    at + i
 }

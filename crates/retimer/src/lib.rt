@@ -6,7 +6,7 @@ pub mod limits;
 // Why a load or a call refuses.
 pub mod reason;
 
-// Numbers read from bytes.
+// Numbers read from bytes, and bytes put at a place.
 pub mod bytes;
 
 // The comparisons that bounds make.

@@ -108,7 +108,7 @@ fn schedules(answer: &Answer) -> bool {
 }
 
 /// A profile of a middling automaton.
-pub(super) fn profile(random: &mut Random, clocks: u8) -> Profile {
+pub fn profile(random: &mut Random, clocks: u8) -> Profile {
     let goals = [
         Goal::Last,
         Goal::Last,

@@ -11,8 +11,9 @@ mod loaded;
 mod used_up;
 
 pub use blocks::BLOCK;
+pub use damage::{at_an_edge, damaged};
 pub use draft::{draw, Bounds, Draft, Goal, Profile};
-pub use kinds::{kind_named, Kind, KINDS, ONCE};
+pub use kinds::{kind_named, profile, Kind, KINDS, ONCE};
 
 use crate::loading::Loading;
 use crate::random::Random;

@@ -2,6 +2,7 @@
 
 use super::outcome::{reason, Converter, Outcome};
 use super::{Case, Format, Kind, RECORD};
+use crate::lent::Lent;
 use crate::refusal::Refusal;
 use std::collections::BTreeMap;
 use std::path::PathBuf;
@@ -23,7 +24,7 @@ pub struct Difference {
 
 impl fmt::Display for Difference {
     fn fmt(&self, out: &mut fmt::Formatter<'_>) -> fmt::Result {
-        let (from, lent) = (self.from, self.expected.output.len());
+        let (from, lent) = (self.from, self.expected.lent.output.len());
         writeln!(out, "difference: kind {}, seed {}", self.kind, self.seed)?;
         writeln!(out, "a log in {from} with an output of {lent} bytes")?;
         writeln!(out, "{}", self.problem)?;
@@ -124,11 +125,11 @@ fn compare_one(converter: &impl Converter, case: &Case) -> Result<i32, Box<Diffe
     if expected.result == 0 {
         let back = Case {
             from: case.from.other(),
-            log: expected.output,
+            log: expected.lent.output,
             output: case.output.clone(),
         };
         let there = Outcome {
-            output: case.log.clone(),
+            lent: Lent::of(case.log.clone()),
             log: back.log.clone(),
             ..expected
         };

@@ -4,6 +4,7 @@ use super::draw::{any_bytes, format, gaps, log_of, sound_gaps, sums, with_action
 use super::{Format, RECORD};
 use crate::limits::LAST_DATE;
 use crate::random::Random;
+use crate::seeds::Named;
 
 /// A log, its format, and the output as it is lent.
 #[derive(Clone, Debug, PartialEq, Eq)]
@@ -23,6 +24,12 @@ impl Kind {
     /// The case of this kind for a seed.
     pub fn case(&self, seed: u64) -> Case {
         (self.make)(&mut Random::named(self.name, seed), seed)
+    }
+}
+
+impl Named for Kind {
+    fn name(&self) -> &'static str {
+        self.name
     }
 }
 

@@ -1,6 +1,7 @@
 //! What a converter of logs does with a log and a lent output.
 
 use super::{convert, sound, Case, Format, RECORD};
+use crate::lent::{self, Lent};
 use crate::refusal::Refusal;
 use std::fmt;
 use std::hint::black_box;
@@ -14,55 +15,43 @@ pub trait Converter {
     fn sound(&self, format: Format, log: &[u8]) -> usize;
 }
 
-/// The reasons for which a log is refused, each with its number.
-const REASONS: [(i32, Refusal); 3] = [(-9, Refusal::I9), (-10, Refusal::I10), (-11, Refusal::I11)];
+/// The reasons for which a log is refused.
+const REASONS: [Refusal; 3] = [Refusal::I9, Refusal::I10, Refusal::I11];
 
 /// The reason that a converter's number stands for.
 pub fn reason(number: i32) -> Option<Refusal> {
-    let mut reasons = REASONS.into_iter();
-    reasons.find_map(|(found, reason)| (found == number).then_some(reason))
+    Refusal::of_result(&REASONS, number)
 }
 
 /// The number that stands for a reason.
 fn number(reason: Refusal) -> i32 {
-    let mut reasons = REASONS.into_iter();
-    let found = reasons.find_map(|(number, found)| (found == reason).then_some(number));
-    found.expect("a log is refused for no other reason")
+    let result = reason.result();
+    result.expect("a log is refused for its bytes alone")
 }
-
-/// Bytes that stand before and after a lent output, no two neighbours alike.
-const GUARD: [u8; 16] = [
-    0xA5, 0x5A, 0x01, 0xFE, 0x80, 0x7F, 0x33, 0xCC, 0x0F, 0xF0, 0x69, 0x96, 0x12, 0xED, 0x3C, 0xC3,
-];
 
 /// What a converter did with a case.
 #[derive(Clone, Debug, PartialEq, Eq)]
 pub(super) struct Outcome {
     pub result: i32,
     pub sound: usize,
-    pub output: Vec<u8>,
+    pub lent: Lent,
     /// The log after the call.
     pub log: Vec<u8>,
-    /// The bytes before and after the output, after the call.
-    pub guards: [Vec<u8>; 2],
 }
 
 impl Outcome {
     /// What a converter does.
     pub fn of(converter: &impl Converter, case: &Case) -> Self {
         let log = case.log.clone();
-        let mut lent = [&GUARD, case.output.as_slice(), &GUARD].concat();
-        let output = &mut lent[GUARD.len()..][..case.output.len()];
-        let result = converter.convert(case.from, black_box(&log), output);
+        let (result, lent) = lent::lend(&case.output, |output| {
+            converter.convert(case.from, black_box(&log), output)
+        });
         let sound = converter.sound(case.from, black_box(&log));
-        let after = lent.split_off(GUARD.len() + case.output.len());
-        let output = lent.split_off(GUARD.len());
         Outcome {
             result,
             sound,
-            output,
+            lent,
             log,
-            guards: [lent, after],
         }
     }
 
@@ -73,39 +62,21 @@ impl Outcome {
         Outcome {
             result: result.map_or_else(|refused| number(refused.reason()), |()| 0),
             sound: sound(case.from, &case.log),
-            output,
+            lent: Lent::of(output),
             log: case.log.clone(),
-            guards: [GUARD.to_vec(), GUARD.to_vec()],
         }
     }
 
     /// The first thing in which another outcome differs from this one.
     pub fn problem(&self, other: &Outcome) -> Option<String> {
-        let parts = [
-            ("the log", &self.log, &other.log),
-            (
-                "what stands before the output",
-                &self.guards[0],
-                &other.guards[0],
-            ),
-            (
-                "what stands after the output",
-                &self.guards[1],
-                &other.guards[1],
-            ),
-            ("the output", &self.output, &other.output),
-        ];
         if self.result != other.result {
             return Some("the results differ".into());
         }
         if self.sound != other.sound {
             return Some("the places of the first fault differ".into());
         }
-        parts.into_iter().find_map(|(name, expected, found)| {
-            let mut pairs = expected.iter().zip(found).enumerate();
-            let (at, (expected, found)) = pairs.find(|(_, (one, other))| one != other)?;
-            Some(format!("byte {at} of {name} is {found}, not {expected}"))
-        })
+        let log = lent::differing("the log", &self.log, &other.log);
+        log.or_else(|| self.lent.problem(&other.lent))
     }
 }
 

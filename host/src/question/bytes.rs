@@ -61,7 +61,8 @@ fn read_call(call: &[u8]) -> Call {
     }
 }
 
-fn read_sheet(sheet: &[u8]) -> Result<Draft, String> {
+/// The fields of a sheet, or what is wrong with its layout.
+pub fn read_sheet(sheet: &[u8]) -> Result<Draft, String> {
     let length = sheet.len();
     if length < HEADER {
         return Err(format!(

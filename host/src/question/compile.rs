@@ -4,7 +4,7 @@ use super::header::{repeated, Header, NAMES};
 use super::rules::Edge;
 use super::scope::{date, left_over, offered};
 use super::words::{quoted, Words};
-use super::{Call, Checks, Mistake, Question};
+use super::{Call, Checks, Mistake, Part, Question};
 use crate::desk::CALL;
 use crate::limits::MAX_TRANSITIONS;
 use crate::sheet::{HEADER, PAIR, RULE};
@@ -14,6 +14,7 @@ const LENGTH_LIMIT: usize = u16::MAX as usize;
 
 /// What was read so far.
 struct Compiler {
+    part: Part,
     checks: Checks,
     header: Header,
     edges: Vec<Edge>,
@@ -31,8 +32,8 @@ struct Compiler {
 }
 
 /// Turns a text into a question, or gives all mistakes.
-pub fn compile(text: &str, checks: Checks) -> Result<Question, Vec<Mistake>> {
-    let mut compiler = Compiler::new(checks);
+pub fn compile(text: &str, part: Part, checks: Checks) -> Result<Question, Vec<Mistake>> {
+    let mut compiler = Compiler::new(part, checks);
     // Some editors put a mark before the text.
     let text = text.strip_prefix('\u{feff}').unwrap_or(text);
     let mut last = 1;
@@ -44,8 +45,9 @@ pub fn compile(text: &str, checks: Checks) -> Result<Question, Vec<Mistake>> {
 }
 
 impl Compiler {
-    fn new(checks: Checks) -> Self {
+    fn new(part: Part, checks: Checks) -> Self {
         Compiler {
+            part,
             checks,
             header: Header::default(),
             edges: Vec::new(),
@@ -68,6 +70,9 @@ impl Compiler {
         };
         let result = match first.as_str() {
             "rule" => self.rule(line, &mut words),
+            "loaded" | "offer" | "collect" | "tail" if self.part == Part::Sheet => {
+                self.outside(line, &first)
+            }
             "loaded" => self.loaded(line, &mut words),
             "offer" | "collect" => self.call(line, &first, &mut words),
             "tail" => self.tail(line, &mut words),
@@ -169,6 +174,22 @@ impl Compiler {
             ));
         }
         Ok(())
+    }
+
+    /// A line that the text of a sheet has not; says so for the first of its sort.
+    fn outside(&mut self, line: usize, first: &str) -> Result<(), String> {
+        let (before, what) = match first {
+            "loaded" => (&mut self.loaded_line, "no loading date"),
+            "tail" => (&mut self.tail_line, "no tail"),
+            _ => (&mut self.first_call, "no calls"),
+        };
+        match before.replace(line) {
+            Some(_) => Ok(()),
+            None => {
+                let first = quoted(first);
+                Err(format!("{first} is out of place; a sheet alone has {what}"))
+            }
+        }
     }
 
     /// Requires that no call was read; `what` comes earlier.

@@ -1,5 +1,5 @@
 //! Questions as text: a trainer writes a sheet and calls in words, and the
-//! desk program reads them as bytes.
+//! desk program reads them as bytes. A sheet alone is such a text too.
 
 mod bytes;
 mod compile;
@@ -40,6 +40,15 @@ pub enum Checks {
     Bytes,
 }
 
+/// What a text is to have.
+#[derive(Clone, Copy, Debug, PartialEq, Eq)]
+enum Part {
+    /// A sheet, and what is done with its box.
+    Question,
+    /// A sheet and nothing else.
+    Sheet,
+}
+
 /// A mistake in a text; lines are numbered from 1.
 #[derive(Clone, Debug, PartialEq, Eq)]
 pub struct Mistake {
@@ -57,12 +66,13 @@ impl fmt::Display for Mistake {
 /// the order of their lines. If the text has a loading date, the input begins
 /// with it.
 pub fn encode(text: &str, checks: Checks) -> Result<Vec<u8>, Vec<Mistake>> {
-    compile::compile(text, checks).map(|question| bytes::write(&question))
+    let question = compile::compile(text, Part::Question, checks)?;
+    Ok(bytes::write(&question))
 }
 
 /// How the input of a text begins, or all mistakes that bytes cannot express.
 pub fn loading(text: &str) -> Result<Loading, Vec<Mistake>> {
-    let question = compile::compile(text, Checks::Bytes)?;
+    let question = compile::compile(text, Part::Question, Checks::Bytes)?;
     Ok(match question.loaded {
         Some(_) => Loading::AtDate,
         None => Loading::AtZero,
@@ -79,4 +89,18 @@ pub fn decode(input: &[u8]) -> Result<String, String> {
 /// text.
 pub fn decode_as(loading: Loading, input: &[u8]) -> Result<String, String> {
     bytes::read(loading, input).map(|question| print::print(&question))
+}
+
+/// Turns the text of a sheet, without calls and loading date, into its bytes, or
+/// gives all mistakes in the order of their lines.
+pub fn encode_sheet(text: &str, checks: Checks) -> Result<Vec<u8>, Vec<Mistake>> {
+    let question = compile::compile(text, Part::Sheet, checks)?;
+    Ok(question.sheet.bytes())
+}
+
+/// Turns a sheet into text, with a comment before the rules of each location, or
+/// says why no text gives it.
+pub fn decode_sheet(sheet: &[u8], comment: impl Fn(u8) -> String) -> Result<String, String> {
+    let sheet = bytes::read_sheet(sheet)?;
+    Ok(print::print_sheet(&sheet, comment))
 }

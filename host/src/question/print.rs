@@ -9,17 +9,27 @@ use crate::sheet::{self, RULE};
 /// blank line.
 pub fn print(question: &Question) -> String {
     let sheet = &question.sheet;
-    let rules = (0..).zip(&sheet.outgoing);
-    let rules = rules.flat_map(|(source, table)| table.iter().map(move |rule| (source, rule)));
-    let rules: String = rules
-        .map(|(source, rule)| print_rule(source, rule))
-        .collect();
+    let tables = (0..).zip(&sheet.outgoing);
+    let rules = tables.map(|(source, table)| print_table(source, table));
+    let rules: String = rules.collect();
     let calls: String = question.calls.iter().map(print_call).collect();
     let loaded = question.loaded.map(|date| format!("loaded at {date}\n"));
     let calls = calls + &tail(&question.tail);
     let parts = [header(sheet), rules, loaded.unwrap_or_default(), calls];
     let parts = parts.into_iter().filter(|part| !part.is_empty());
     remark(question) + &parts.collect::<Vec<_>>().join("\n")
+}
+
+/// The text of a sheet alone: header, and the rules of each location, with a
+/// comment before them.
+pub fn print_sheet(sheet: &Draft, comment: impl Fn(u8) -> String) -> String {
+    let tables = (0..).zip(&sheet.outgoing);
+    let rules = tables.map(|(source, table)| {
+        let (comment, rules) = (comment(source), print_table(source, table));
+        format!("# {comment}\n{rules}")
+    });
+    let parts: Vec<String> = [header(sheet)].into_iter().chain(rules).collect();
+    parts.join("\n")
 }
 
 /// A comment for a sheet that the desk program refuses, or for its loading date.
@@ -44,7 +54,13 @@ fn header(sheet: &Draft) -> String {
     )
 }
 
-fn print_rule(source: u32, rule: &[u8; RULE]) -> String {
+/// The rules of a location.
+fn print_table(source: u8, table: &[[u8; RULE]]) -> String {
+    let rules = table.iter().map(|rule| print_rule(source, rule));
+    rules.collect()
+}
+
+fn print_rule(source: u8, rule: &[u8; RULE]) -> String {
     let [action, target, resets, low_1, high_1, low_2, high_2] = *rule;
     let guards = [(1, low_1, high_1), (2, low_2, high_2)];
     let guards = guards.into_iter().filter_map(print_guard);

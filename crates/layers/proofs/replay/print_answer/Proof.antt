@@ -1,7 +1,7 @@
 -- `replay::print_answer` meets its contract: the text is within its buffer.
 -- Assumes nothing.
 use native.Mathlib.Omega.{arith}
-use Rattle.report.proofs.Writing.{counted}
+use Rattle.report.proofs.Counting.{counted}
 use Rattle.report.proofs.LineLaws.{answer-few}
 use borrow.Author.Needs.{needs}
 use Rattle.layers.proofs.replay.print_answer.Statement.{statement}

@@ -2,7 +2,7 @@
 -- Assumes nothing.
 use native.Mathlib.Omega.{arith}
 use Rattle.retimer.specs.Checked.{checkedOf}
-use Rattle.report.proofs.Writing.{counted}
+use Rattle.report.proofs.Counting.{counted}
 use Rattle.report.proofs.LineLaws.{checked-few}
 use borrow.Author.Needs.{needs}
 use Rattle.marking.proofs.desk.print_checked.Statement.{statement}

@@ -5,7 +5,8 @@ use native.Mathlib.Omega.{arith}
 use lib.ListN.{length}
 use Rattle.retimer.specs.Checked.{checkedOf}
 use Rattle.retimer.proofs.Loads.{accepted-loads}
-use Rattle.report.proofs.Writing.{as-text, counted}
+use Rattle.retimer.proofs.Writing.{as-part}
+use Rattle.report.proofs.Counting.{counted}
 use Rattle.report.proofs.LineLaws.{checked-few}
 use Rattle.marking.proofs.Inputs.{both-count}
 use Rattle.marking.proofs.Keys.{key-refused, key-accepted, part-length, joined}
@@ -33,7 +34,7 @@ returns c =
     let a = c .before .before .before .before .before .before .before .before .before .before in
     let l = c .before .before .before .before .before .before .load in
     let w = c .before .before .before .before .checked-line in (
-      as-text (w .ensures) (key-refused (a .args .sheet .now) (a .args .loaded) (a .args .calls .now) (l .result .checked) (l .ensures .checked) (c .enum-told2 .given .0 .0) (c .enum-told2 .given .1)),
+      as-part (w .ensures) (key-refused (a .args .sheet .now) (a .args .loaded) (a .args .calls .now) (l .result .checked) (l .ensures .checked) (c .enum-told2 .given .0 .0) (c .enum-told2 .given .1)),
       counted (w .ensures) (w .kept .0) (omega (arith, a .pre, checked-few (checkedOf (l .result .checked)))),
     )
 
@@ -73,7 +74,7 @@ returns-2 c =
     let k = c .before .before .before .before .before .before .enum-told in
     let m = c .before .before .before .mark in
     let loads = accepted-loads (a .args .sheet .now) (a .args .loaded) (l .result .checked) (k .given .0 .0) (k .given .1) (l .ensures .checked) in (
-      as-text (joined (omega (arith, a .pre, w .ensures .ends, checked-few (checkedOf (l .result .checked)))) (w .ensures) (m .ensures .wrote))
+      as-part (joined (omega (arith, a .pre, w .ensures .ends, checked-few (checkedOf (l .result .checked)))) (w .ensures) (m .ensures .wrote))
           (key-accepted (a .args .sheet .now) (a .args .loaded) (a .args .calls .now) (l .result .checked) (l .ensures .checked) (k .given .0 .0) (l .result .monitor) (k .given .1) (l .ensures .fresh loads)),
       both-count (w .last .0) (m .last .1 .1 .1 .0) (w .result) (length (w .last .0) - w .result) (w .result) (m .result .size) (omega (arith, a .pre, w .ensures .ends, w .kept .0, checked-few (checkedOf (l .result .checked)))) (omega arith) (m .ensures .counts .0),
     )

@@ -3,7 +3,7 @@
 use native.Mathlib.Omega.{arith}
 use borrow.Author.Needs.{needs}
 use Rattle.report.proofs.Numerals.{numeral-few}
-use Rattle.report.proofs.Writing.{next}
+use Rattle.retimer.proofs.Writing.{next}
 use Rattle.report.proofs.LineLaws.{answer-few}
 use Rattle.report.proofs.line.call_line.Statement.{statement}
 use Rattle.report.proofs.line.call_line.Tie as tie

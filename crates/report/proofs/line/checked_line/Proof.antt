@@ -5,7 +5,7 @@ use borrow.Author.Needs.{needs}
 use Rattle.retimer.specs.Checked.{checkedOf}
 use Rattle.retimer.specs.declared.sheet.Checked.{Checked}
 use Rattle.report.specs.Lines.{checkedLine}
-use Rattle.report.proofs.Writing.{as-text}
+use Rattle.retimer.proofs.Writing.{as-part}
 use Rattle.report.proofs.line.checked_line.Statement.{statement}
 use Rattle.report.proofs.line.checked_line.Tie as tie
 
@@ -25,13 +25,13 @@ same-length : tie.Need-same-length
 same-length c = search needs
 
 returns : tie.Need-returns
-returns c = as-text (c .before .before .sheet-line .ensures) (ap (λ (k : Checked). checkedLine (checkedOf k)) (sym (c .before .before .before .before .before .c .given .1)))
+returns c = as-part (c .before .before .sheet-line .ensures) (ap (λ (k : Checked). checkedLine (checkedOf k)) (sym (c .before .before .before .before .before .c .given .1)))
 
 same-length-2 : tie.Need-same-length-2
 same-length-2 c = search needs
 
 returns-2 : tie.Need-returns-2
-returns-2 c = as-text (c .before .before .refused-line .ensures) (ap (λ (k : Checked). checkedLine (checkedOf k)) (sym (c .before .before .before .before .before .c2 .given .1)))
+returns-2 c = as-part (c .before .before .refused-line .ensures) (ap (λ (k : Checked). checkedLine (checkedOf k)) (sym (c .before .before .before .before .before .c2 .given .1)))
 
 pub checked-line-spec : {M : Type 1} → statement M
 checked-line-spec =

@@ -3,7 +3,7 @@
 use mathlib.Core.Path.{ap, sym}
 use borrow.Author.Needs.{needs}
 use Rattle.report.specs.Lines.{answerText}
-use Rattle.report.proofs.Writing.{as-text}
+use Rattle.retimer.proofs.Writing.{as-part}
 use Rattle.report.proofs.line.put_answer.Statement.{statement}
 use Rattle.report.proofs.line.put_answer.Tie as tie
 
@@ -80,49 +80,49 @@ same-length : tie.Need-same-length
 same-length c = search needs
 
 returns : tie.Need-returns
-returns c = as-text (c .before .before .put-dated .ensures) (ap answerText (sym (c .before .before .before .before .before .before .a .given .1)))
+returns c = as-part (c .before .before .put-dated .ensures) (ap answerText (sym (c .before .before .before .before .before .before .a .given .1)))
 
 same-length-2 : tie.Need-same-length-2
 same-length-2 c = search needs
 
 returns-2 : tie.Need-returns-2
-returns-2 c = as-text (c .before .before .put-figure .ensures) (ap answerText (sym (c .before .before .before .before .before .before .a2 .given .1)))
+returns-2 c = as-part (c .before .before .put-figure .ensures) (ap answerText (sym (c .before .before .before .before .before .before .a2 .given .1)))
 
 same-length-3 : tie.Need-same-length-3
 same-length-3 c = search needs
 
 returns-3 : tie.Need-returns-3
-returns-3 c = as-text (c .before .before .put .ensures) (ap answerText (sym (c .before .before .before .before .before .enum-told .given .1)))
+returns-3 c = as-part (c .before .before .put .ensures) (ap answerText (sym (c .before .before .before .before .before .enum-told .given .1)))
 
 same-length-4 : tie.Need-same-length-4
 same-length-4 c = search needs
 
 returns-4 : tie.Need-returns-4
-returns-4 c = as-text (c .before .before .put-played .ensures) (ap answerText (sym (c .before .before .before .before .before .a3 .given .1)))
+returns-4 c = as-part (c .before .before .put-played .ensures) (ap answerText (sym (c .before .before .before .before .before .a3 .given .1)))
 
 same-length-5 : tie.Need-same-length-5
 same-length-5 c = search needs
 
 returns-5 : tie.Need-returns-5
-returns-5 c = as-text (c .before .before .put2 .ensures) (ap answerText (sym (c .before .before .before .before .before .enum-told2 .given .1)))
+returns-5 c = as-part (c .before .before .put2 .ensures) (ap answerText (sym (c .before .before .before .before .before .enum-told2 .given .1)))
 
 same-length-6 : tie.Need-same-length-6
 same-length-6 c = search needs
 
 returns-6 : tie.Need-returns-6
-returns-6 c = as-text (c .before .before .put3 .ensures) (ap answerText (sym (c .before .before .before .before .before .enum-told3 .given .1)))
+returns-6 c = as-part (c .before .before .put3 .ensures) (ap answerText (sym (c .before .before .before .before .before .enum-told3 .given .1)))
 
 same-length-7 : tie.Need-same-length-7
 same-length-7 c = search needs
 
 returns-7 : tie.Need-returns-7
-returns-7 c = as-text (c .before .before .put4 .ensures) (ap answerText (sym (c .before .before .before .before .before .enum-told4 .given .1)))
+returns-7 c = as-part (c .before .before .put4 .ensures) (ap answerText (sym (c .before .before .before .before .before .enum-told4 .given .1)))
 
 same-length-8 : tie.Need-same-length-8
 same-length-8 c = search needs
 
 returns-8 : tie.Need-returns-8
-returns-8 c = as-text (c .before .before .put-refused .ensures) (ap answerText (sym (c .before .before .before .before .before .a4 .given .1)))
+returns-8 c = as-part (c .before .before .put-refused .ensures) (ap answerText (sym (c .before .before .before .before .before .a4 .given .1)))
 
 pub put-answer-spec : {M : Type 1} → statement M
 put-answer-spec =

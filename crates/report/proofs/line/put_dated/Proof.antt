@@ -5,7 +5,7 @@ use lib.ListN.{length-append}
 use borrow.Author.Needs.{needs}
 use Rattle.report.specs.Texts.{numeral}
 use Rattle.report.proofs.Numerals.{numeral-few}
-use Rattle.report.proofs.Writing.{next}
+use Rattle.retimer.proofs.Writing.{next}
 use Rattle.report.proofs.line.put_dated.Statement.{statement}
 use Rattle.report.proofs.line.put_dated.Tie as tie
 

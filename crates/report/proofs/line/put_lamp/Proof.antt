@@ -3,7 +3,7 @@
 use mathlib.Core.Path.{ap, sym}
 use borrow.Author.Needs.{needs}
 use Rattle.report.specs.Lines.{lampText}
-use Rattle.report.proofs.Writing.{as-text}
+use Rattle.retimer.proofs.Writing.{as-part}
 use Rattle.report.proofs.line.put_lamp.Statement.{statement}
 use Rattle.report.proofs.line.put_lamp.Tie as tie
 
@@ -17,7 +17,7 @@ same-length : tie.Need-same-length
 same-length c = search needs
 
 returns : tie.Need-returns
-returns c = as-text (c .before .before .put .ensures) (ap lampText (sym (c .before .before .before .before .before .if1 .taken)))
+returns c = as-part (c .before .before .put .ensures) (ap lampText (sym (c .before .before .before .before .before .if1 .taken)))
 
 slice-aggregate-put-2 : tie.Need-slice-aggregate-put-2
 slice-aggregate-put-2 c = search needs
@@ -29,7 +29,7 @@ same-length-2 : tie.Need-same-length-2
 same-length-2 c = search needs
 
 returns-2 : tie.Need-returns-2
-returns-2 c = as-text (c .before .before .put2 .ensures) (ap lampText (sym (c .before .before .before .before .before .if1 .left)))
+returns-2 c = as-part (c .before .before .put2 .ensures) (ap lampText (sym (c .before .before .before .before .before .if1 .left)))
 
 pub put-lamp-spec : {M : Type 1} → statement M
 put-lamp-spec =

@@ -1,7 +1,7 @@
 -- `line::put_reason` meets its contract: the three bytes are the reason.
 -- Assumes nothing.
 use borrow.Author.Needs.{needs}
-use Rattle.report.proofs.Writing.{as-text}
+use Rattle.retimer.proofs.Writing.{as-part}
 use Rattle.report.proofs.line.put_reason.Statement.{statement}
 use Rattle.report.proofs.line.put_reason.Tie as tie
 
@@ -18,7 +18,7 @@ same-length : tie.Need-same-length
 same-length c = search needs
 
 returns : tie.Need-returns
-returns c = as-text (c .before .before .put .ensures) (c .before .before .before .before .before .spelled .ensures)
+returns c = as-part (c .before .before .put .ensures) (c .before .before .before .before .before .spelled .ensures)
 
 pub put-reason-spec : {M : Type 1} → statement M
 put-reason-spec =

@@ -5,7 +5,7 @@ use borrow.Author.Needs.{needs}
 use Rattle.retimer.specs.Checked.{figuresOf}
 use Rattle.report.proofs.Numerals.{numeral-few}
 use Rattle.report.proofs.LineLaws.{header-few}
-use Rattle.report.proofs.Writing.{next}
+use Rattle.retimer.proofs.Writing.{next}
 use Rattle.report.proofs.line.sheet_line.Statement.{statement}
 use Rattle.report.proofs.line.sheet_line.Tie as tie
 

@@ -6,12 +6,12 @@ use borrow.Author.Needs.{needs}
 use Rattle.report.specs.Lines.{tailLine}
 use Rattle.report.proofs.LineLaws.{tail-some}
 use Rattle.report.proofs.Numerals.{numeral-few}
-use Rattle.report.proofs.Writing.{next, as-text, writes-none}
+use Rattle.retimer.proofs.Writing.{next, as-part, writes-none}
 use Rattle.report.proofs.line.tail_line.Statement.{statement}
 use Rattle.report.proofs.line.tail_line.Tie as tie
 
 returns : tie.Need-returns
-returns c = as-text (writes-none (c .before .before .args .out .now) (c .before .before .args .at)) (ap tailLine (sym (c .if1 .taken)))
+returns c = as-part (writes-none (c .before .before .args .out .now) (c .before .before .args .at)) (ap tailLine (sym (c .if1 .taken)))
 
 slice-aggregate-put-figure : tie.Need-slice-aggregate-put-figure
 slice-aggregate-put-figure c = search needs
@@ -29,7 +29,7 @@ same-length : tie.Need-same-length
 same-length c = search needs
 
 returns-2 : tie.Need-returns-2
-returns-2 c = as-text (next (omega (arith, numeral-few (c .before .before .before .before .before .before .before .before .before .before .before .before .args .n))) (c .before .before .before .before .before .before .before .put-figure .ensures) (c .before .before .put .ensures)) (sym (tail-some (c .before .before .before .before .before .before .before .before .before .before .before .before .args .n) (c .before .before .before .before .before .before .before .before .before .before .if1 .left)))
+returns-2 c = as-part (next (omega (arith, numeral-few (c .before .before .before .before .before .before .before .before .before .before .before .before .args .n))) (c .before .before .before .before .before .before .before .put-figure .ensures) (c .before .before .put .ensures)) (sym (tail-some (c .before .before .before .before .before .before .before .before .before .before .before .before .args .n) (c .before .before .before .before .before .before .before .before .before .before .if1 .left)))
 
 pub tail-line-spec : {M : Type 1} → statement M
 tail-line-spec =

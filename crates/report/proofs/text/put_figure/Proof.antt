@@ -2,7 +2,7 @@
 -- Assumes nothing.
 use native.Mathlib.Omega.{arith}
 use borrow.Author.Needs.{needs}
-use Rattle.report.proofs.Writing.{next}
+use Rattle.retimer.proofs.Writing.{next}
 use Rattle.report.proofs.text.put_figure.Statement.{statement}
 use Rattle.report.proofs.text.put_figure.Tie as tie
 
