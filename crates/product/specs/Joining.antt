@@ -33,7 +33,7 @@ Holds m s u I-12 = actions s ≡ actions u → ⊥
 Holds m s u I-13 = (2 < clocks s + clocks u) ⊎ (maxCount < locations s * locations u)
 Holds m s u I-14 = maxTransitions < length (productTransitions s u)
 
--- The number after "I-". No reason of a load but I-1 to I-6 is a sheet's own, so that no two of these are one (`named`).
+-- The number after "I-". A sheet's own reasons are I-1 to I-6, so none of them has the number of a reason of joining (`named`).
 abbrev pub number : Refusal → ℕ
 number I-9 = 9
 number (of-first r) = reason.number r
