@@ -1,4 +1,4 @@
--- Two sheets and the joined one, worked out by hand from document 02: numbers of locations, the order of rules and what a rule is made of show in it.
+-- Two sheets and the joined one, worked out from document 02's words, apart from the definitions: numbers of locations, the order of rules and what a rule is made of show in it.
 use mathlib.Core.List.{[], _∷_}
 use Rattle.enforcement.specs.Automaton.{Bytes}
 
