@@ -1,6 +1,7 @@
 //! Compares a desk program with this library over random inputs, and over some
 //! that use up the numbers.
 
+use crate::bounds;
 use crate::desk;
 use crate::generate::Kind;
 use crate::loading::{self, Loading};
@@ -120,6 +121,7 @@ fn compare_one(program: &Path, case: Case, summary: &mut Summary) -> Result<(), 
     };
     part.inputs += 1;
     part.tally.add(&expected);
+    bounds::count(&mut part.tally, case.loading, &case.input);
     if case.loading == Loading::AtDate {
         loading::count(&mut part.tally, &case.input, &expected);
     }

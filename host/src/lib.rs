@@ -4,6 +4,7 @@
 //! the product of two sheets, with random pairs.
 
 pub mod bench;
+pub mod bounds;
 pub mod compare;
 pub mod course;
 pub mod decide;

@@ -3,7 +3,7 @@
 /// Most actions that can be pending.
 pub const MAX_PENDING: usize = 16;
 /// Largest finite bound of a guard.
-pub const MAX_BOUND: u8 = 30;
+pub const MAX_BOUND: u8 = 40;
 /// Most actions in the schedule.
 pub const MAX_SCHEDULED: usize = 32;
 /// Most transitions of an automaton.

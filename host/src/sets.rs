@@ -1,5 +1,5 @@
-//! Sets of configurations as bits. Readings above 30 all act alike, so a set
-//! keeps each reading capped at 31.
+//! Sets of configurations as bits. Readings above the largest bound all act
+//! alike, so a set keeps each reading capped at the next one.
 
 use crate::limits::MAX_BOUND;
 use crate::runs::Configuration;
@@ -10,8 +10,13 @@ pub const CAP: usize = MAX_BOUND as usize + 1;
 /// How many readings differ once they are capped.
 const READINGS: usize = CAP + 1;
 
-/// For one location: a row per reading of clock 2, a bit per reading of clock 1.
-type Grid = [u32; READINGS];
+/// A bit per reading of clock 1; no other bit is ever set.
+type Row = u64;
+/// The row of all readings.
+const FULL: Row = Row::MAX >> (Row::BITS - READINGS as u32);
+
+/// For one location: a row per reading of clock 2.
+type Grid = [Row; READINGS];
 
 /// A set of configurations with capped readings.
 #[derive(Clone, PartialEq, Eq)]
@@ -73,7 +78,7 @@ impl ConfigurationSet {
             }
             // In the capped row only clock 1 still moves, up to its cap.
             if grid[CAP] != 0 {
-                grid[CAP] = u32::MAX << grid[CAP].trailing_zeros();
+                grid[CAP] = FULL << grid[CAP].trailing_zeros() & FULL;
             }
         }
     }
@@ -129,8 +134,8 @@ impl ConfigurationSet {
 }
 
 /// One tick of clock 1 in a row: every bit moves up, the cap stays.
-fn tick_row(row: u32) -> u32 {
-    row << 1 | row & 1 << CAP
+fn tick_row(row: Row) -> Row {
+    row << 1 & FULL | row & 1 << CAP
 }
 
 /// The capped readings at or below an interval's high.
@@ -139,8 +144,8 @@ fn capped_high(interval: Interval) -> usize {
 }
 
 /// The bits of the readings that an interval contains.
-fn columns(interval: Interval) -> u32 {
-    let from_low = u32::MAX << interval.low;
-    let to_high = u32::MAX >> (CAP - capped_high(interval));
+fn columns(interval: Interval) -> Row {
+    let from_low = FULL << interval.low;
+    let to_high = FULL >> (CAP - capped_high(interval));
     from_low & to_high
 }

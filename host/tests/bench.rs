@@ -6,6 +6,7 @@ use common::fresh;
 use host::bench::{heaviest, loading, Counter, Figures, Folder, Input, Kind};
 use host::bench::{typical, Measured, Programs, Stop, KINDS, LOADING, SHORT, STORED, WORST};
 use host::desk::{self, CALL, COLLECTION};
+use host::limits::MAX_BOUND;
 use host::monitor::{Answer, Monitor};
 use host::runs::{Configuration, Reached};
 use host::sets::CAP;
@@ -232,6 +233,9 @@ fn states(monitor: &Monitor, list: &[u8]) -> usize {
     sum
 }
 
+/// The largest bound, as ticks.
+const LAST: u32 = MAX_BOUND as u32;
+
 fn check_largest(bytes: &[u8]) {
     assert_eq!(bytes.len(), 518);
     let automaton = sheet::read(bytes).expect("the sheet loads");
@@ -245,8 +249,8 @@ fn check_largest(bytes: &[u8]) {
 fn heaviest_sheets() {
     let list = [heaviest::HELD; 17];
     for (bytes, least) in [
-        (heaviest::many_states(), 210_000),
-        (heaviest::late_correction(), 120_000),
+        (heaviest::many_states(), 360_000),
+        (heaviest::late_correction(), 220_000),
     ] {
         check_largest(&bytes);
         let found = states(&fresh(&bytes), &list);
@@ -257,8 +261,8 @@ fn heaviest_sheets() {
 #[test]
 fn heaviest_batches() {
     for (name, ticks) in [
-        ("heaviest, many states", 30),
-        ("heaviest, late correction", 400),
+        ("heaviest, many states", LAST),
+        ("heaviest, late correction", 15 * (LAST - 1)),
     ] {
         let inputs = kind(name).inputs(34);
         let answers = replay(&inputs[0]);
@@ -297,10 +301,10 @@ fn worst_offers() {
 fn heaviest_plans() {
     check_largest(&heaviest::dead_locations());
     for (name, ticks) in [
-        ("many states, scheduled", 30),
-        ("late correction, scheduled", 400),
-        ("worst plan found", 30),
-        ("worst waits found", 450),
+        ("many states, scheduled", LAST),
+        ("late correction, scheduled", 15 * (LAST - 1)),
+        ("worst plan found", LAST),
+        ("worst waits found", 15 * LAST),
     ] {
         let inputs = kind(name).inputs(1);
         let answers = replay(&inputs[0]);
@@ -350,7 +354,7 @@ fn the_long_way_is_long() {
         newest = &waiting(next.into_iter()) - &known;
         actions += 1;
     }
-    assert!(actions >= 400, "{actions} actions");
+    assert!(actions >= 15 * CAP, "{actions} actions");
 }
 
 fn call(arguments: &[&str]) -> Output {

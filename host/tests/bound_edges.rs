@@ -6,6 +6,7 @@ mod common;
 use common::{automata, fresh, refused, scheduled, SEEDS};
 use host::desk::{self, CALL, COLLECTION};
 use host::generate::kind_named;
+use host::limits::MAX_BOUND;
 use host::monitor::{Answer, Monitor};
 use host::refusal::Refusal;
 use host::runs::Reached;
@@ -50,11 +51,25 @@ fn guards_of_every_case() {
     for (number, least) in [600, 300, 250, 250].into_iter().enumerate() {
         enough(&|guard| case(guard) == number, least);
     }
-    let corners = [[0, 0], [0, 30], [0, 255], [30, 30], [30, 255], [29, 30]];
+    let last = MAX_BOUND;
+    let corners = [
+        [0, 0],
+        [0, last],
+        [0, 255],
+        [last, last],
+        [last, 255],
+        [last - 1, last],
+    ];
     for [low, high] in corners {
         enough(&|guard| *guard == Interval::from_bytes(low, high), 25);
     }
-    enough(&|guard| *guard == Interval::from_bytes(1, 30), 10);
+    enough(&|guard| *guard == Interval::from_bytes(1, last), 10);
+    // Around the bound that was the largest.
+    for bound in [30, 31] {
+        for [low, high] in [[0, bound], [bound, bound], [bound, 255]] {
+            enough(&|guard| *guard == Interval::from_bytes(low, high), 10);
+        }
+    }
 }
 
 /// Counts for each case of a guard.
@@ -138,10 +153,16 @@ fn readings(monitor: &Monitor, offered: Option<u8>, date: u32) -> Vec<(Interval,
 #[test]
 fn offers_at_the_ends_of_guards() {
     let (mut at_ends, mut at_limits) = (Counts::default(), Counts::default());
+    let last = u32::from(MAX_BOUND);
     for (monitor, action, date) in edge_calls(false) {
         for (guard, reading) in readings(&monitor, Some(action), date) {
             add(&mut at_ends, &guard, ends(&guard, reading));
-            let limits = [reading == 0, reading == 30, reading == 31, reading > 60];
+            let limits = [
+                reading == 0,
+                reading == last,
+                reading == last + 1,
+                reading > 60,
+            ];
             add(&mut at_limits, &guard, limits);
         }
     }

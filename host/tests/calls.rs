@@ -337,35 +337,38 @@ fn two_clocks_pull_apart() {
 }
 
 #[test]
-fn readings_above_thirty_act_alike() {
-    // From 30 on, and at most 30: reading 30 is in both, 31 in the first only.
+fn readings_above_forty_act_alike() {
+    // From 40 on, and at most 40: reading 40 is in both, 41 in the first only.
     let with = |low, high, date| {
         let bytes = sheet_of([1, 1, 1, 0], 1, &[&[[0, 0, 0, low, high, 0, 255]]]);
         fresh(&bytes).offer(0, date)
     };
-    assert_eq!(with(30, 255, 29), scheduled(1, 30));
-    assert_eq!(with(30, 255, 31), scheduled(1, 31));
-    assert_eq!(with(30, 255, LAST_DATE), scheduled(1, LAST_DATE));
-    assert_eq!(with(0, 30, 30), scheduled(1, 30));
-    assert_eq!(with(0, 30, 31), Answer::Dropped);
-    assert_eq!(with(30, 30, 0), scheduled(1, 30));
-    assert_eq!(with(30, 30, 31), Answer::Dropped);
-    assert_eq!(with(30, 30, LAST_DATE), Answer::Dropped);
+    for bound in [30, 31, 36, 39, 40] {
+        let date = u32::from(bound);
+        assert_eq!(with(bound, 255, date - 1), scheduled(1, date));
+        assert_eq!(with(bound, 255, date + 1), scheduled(1, date + 1));
+        assert_eq!(with(bound, 255, LAST_DATE), scheduled(1, LAST_DATE));
+        assert_eq!(with(0, bound, date), scheduled(1, date));
+        assert_eq!(with(0, bound, date + 1), Answer::Dropped);
+        assert_eq!(with(bound, bound, 0), scheduled(1, date));
+        assert_eq!(with(bound, bound, date + 1), Answer::Dropped);
+        assert_eq!(with(bound, bound, LAST_DATE), Answer::Dropped);
+    }
 }
 
 #[test]
 fn seventeen_long_waits() {
-    // Command 0 stays, with reset, at reading 30 exactly; command 1 ends at
-    // reading 30. Seventeen commands are 17 times 30 ticks apart from date 0
+    // Command 0 stays, with reset, at reading 40 exactly; command 1 ends at
+    // reading 40. Seventeen commands are 17 times 40 ticks apart from date 0
     // for the first, whose clock starts at 0.
-    let stay = [0, 0, 1, 30, 30, 0, 255];
-    let end = [1, 1, 1, 30, 30, 0, 255];
+    let stay = [0, 0, 1, 40, 40, 0, 255];
+    let end = [1, 1, 1, 40, 40, 0, 255];
     let mut monitor = fresh(&sheet_of([2, 1, 2, 0], 2, &[&[stay, end], &[]]));
     for count in 1..=16 {
         assert_eq!(monitor.offer(0, 7), Answer::Held(count));
     }
-    assert_eq!(monitor.offer(1, 7), scheduled(17, 510));
-    let expected: Vec<u32> = (1..=17).map(|index| 30 * index).collect();
+    assert_eq!(monitor.offer(1, 7), scheduled(17, 680));
+    let expected: Vec<u32> = (1..=17).map(|index| 40 * index).collect();
     assert_eq!(dates(&monitor), expected);
 }
 

@@ -5,7 +5,8 @@ mod common;
 
 use common::{automata, bare_answer, first_call, SEEDS};
 use host::desk::{self, CALL, COLLECTION};
-use host::generate::{kind_named, BLOCK, KINDS};
+use host::generate::{kind_named, BLOCK, EARLIER_MOST, KINDS};
+use host::limits::MAX_BOUND;
 use host::monitor::{Answer, Monitor};
 use host::sheet::{self, Automaton};
 use host::tally::Tally;
@@ -475,6 +476,7 @@ fn automata_vary() {
             .filter_map(|guard| guard.high)
             .any(|high| high == bound)
     };
-    assert!(count(&|it| bounded_by(it, 30)) >= 50);
+    assert!(count(&|it| bounded_by(it, MAX_BOUND)) >= 50);
+    assert!(count(&|it| bounded_by(it, EARLIER_MOST)) >= 50);
     assert!(count(&|it| bounded_by(it, 0)) >= 50);
 }

@@ -1,4 +1,4 @@
-//! The keys of document 01.
+//! The keys of document 01, the largest bound as document 02 has it.
 
 mod common;
 
@@ -136,7 +136,9 @@ fn one_location(intervals: &[[u8; 2]]) -> Vec<u8> {
 fn highs_and_intervals() {
     let read = |intervals: &[[u8; 2]]| sheet::read(&one_location(intervals)).err();
     assert_eq!(read(&[[0, 30]]), None);
-    assert_eq!(read(&[[0, 31]]), Some(Refusal::I5));
+    assert_eq!(read(&[[0, 31]]), None);
+    assert_eq!(read(&[[0, 40]]), None);
+    assert_eq!(read(&[[0, 41]]), Some(Refusal::I5));
     assert_eq!(read(&[[0, 4], [5, 255]]), None);
     assert_eq!(read(&[[0, 5], [5, 255]]), Some(Refusal::I6));
 }

@@ -6,11 +6,15 @@ mod common;
 
 use common::COLLECT;
 use host::generate::kind_named;
+use host::limits::MAX_BOUND;
 use host::monitor::{Answer, Monitor};
 use host::sheet::{self, Automaton};
 use std::collections::BTreeMap;
 
-/// Location and readings, capped at 31.
+/// The least reading above every bound.
+const CAP: u32 = MAX_BOUND as u32 + 1;
+
+/// Location and readings, capped.
 type State = (u8, u32, u32);
 /// The first timing in order that leads to each state.
 type Labels = BTreeMap<State, Vec<u32>>;
@@ -31,7 +35,7 @@ fn tick(labels: Labels) -> Labels {
     for ((location, x, y), timing) in labels {
         keep(
             &mut next,
-            (location, (x + 1).min(31), (y + 1).min(31)),
+            (location, (x + 1).min(CAP), (y + 1).min(CAP)),
             timing,
         );
     }
@@ -62,10 +66,10 @@ fn correction(monitor: &Monitor, action: u8, t: u32) -> Option<Vec<u32>> {
     let [x, y] = reached
         .configuration
         .valuation
-        .map(|reading| (reading + (start - reached.date)).min(31));
+        .map(|reading| (reading + (start - reached.date)).min(CAP));
     let mut layers = vec![Labels::new(); list.len() + 1];
     layers[0].insert((reached.configuration.location, x, y), Vec::new());
-    for date in start..=start + 31 * list.len() as u32 {
+    for date in start..=start + CAP * list.len() as u32 {
         for (index, action) in list.iter().enumerate() {
             for (state, timing) in layers[index].clone() {
                 if let Some(next) = play(automaton, state, *action) {

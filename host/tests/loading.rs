@@ -7,11 +7,12 @@ use common::{input, input_at, loaded, refused, run_of, scheduled, sheet_of, COLL
 use host::course::{A, B, C, D, E};
 use host::desk::{self, CALL};
 use host::generate::KINDS;
-use host::limits::LAST_DATE;
+use host::limits::{LAST_DATE, MAX_PENDING};
 use host::loading::Loading;
 use host::monitor::{Answer, Monitor};
 use host::refusal::Refusal;
 use host::runs::{beginning, satisfies};
+use host::sets::CAP;
 use host::{fast, sheet};
 
 /// The lines of an input with a loading date; both boxes give the same.
@@ -67,7 +68,7 @@ fn keys_at_other_dates() {
         // These show all dates.
         calls.extend([(COLLECT, 20); 18]);
         let lines = desk::run(&input(sheet, &calls));
-        for date in [0, 1, 8, 30, 31, 43_200, 999_999_900, LAST_DATE - 20] {
+        for date in [0, 1, 8, 30, 31, 40, 41, 43_200, 999_999_900, LAST_DATE - 20] {
             let moved = calls.iter().map(|(first, at)| (*first, at + date));
             let moved: Vec<(u8, u32)> = moved.collect();
             let found = lines_at(&input_at(date, sheet, &moved));
@@ -95,6 +96,9 @@ fn some_keys_at_midday() {
     assert_eq!(common::dates(&monitor), [43_203, 43_210]);
 }
 
+/// No correction takes longer.
+const LONGEST: u32 = CAP as u32 * (MAX_PENDING as u32 + 1);
+
 /// An input moved to a loading date; `None` if a date would get past the last.
 fn moved(plain: &[u8], ticks: u32) -> Option<Vec<u8>> {
     let (_, calls) = desk::split(plain)?;
@@ -105,7 +109,7 @@ fn moved(plain: &[u8], ticks: u32) -> Option<Vec<u8>> {
     for call in calls {
         let date = desk::date_of(call);
         // No list waits for longer, and no call above the last date gets below it.
-        if date <= LAST_DATE && date > LAST_DATE - ticks - 600 {
+        if date <= LAST_DATE && date > LAST_DATE - ticks - LONGEST {
             return None;
         }
         input.push(call[0]);
@@ -159,8 +163,8 @@ fn between(low: u8, high: u8) -> Vec<u8> {
 /// from the start.
 #[test]
 fn clocks_count_from_the_loading_date() {
-    for date in [1, 31, 43_200, LAST_DATE - 40] {
-        for high in [0, 1, 30] {
+    for date in [1, 31, 41, 43_200, LAST_DATE - 41] {
+        for high in [0, 1, 30, 31, 40] {
             let sheet = between(0, high);
             let end = date + u32::from(high);
             let mut monitor = loaded(&sheet, date);
@@ -173,8 +177,8 @@ fn clocks_count_from_the_loading_date() {
             assert_eq!(monitor.offer(0, end + 1), Answer::Dropped);
         }
         // A low is waited for.
-        let mut monitor = loaded(&between(30, 30), date);
-        assert_eq!(monitor.offer(0, date), scheduled(1, date + 30));
+        let mut monitor = loaded(&between(40, 40), date);
+        assert_eq!(monitor.offer(0, date), scheduled(1, date + 40));
     }
 }
 

@@ -50,8 +50,9 @@ fn loading_dates() {
     let count = |test: &dyn Fn(u32) -> bool| dates.iter().filter(|date| test(**date)).count();
     assert!(count(&|date| date == 0) >= 100);
     assert!(count(&|date| (1..=60).contains(&date)) >= 200);
-    assert!(count(&|date| (61..LAST_DATE - 600).contains(&date)) >= 500);
-    assert!(count(&|date| (LAST_DATE - 600..LAST_DATE).contains(&date)) >= 250);
+    assert!(count(&|date| (61..LAST_DATE - 700).contains(&date)) >= 500);
+    assert!(count(&|date| (LAST_DATE - 700..LAST_DATE).contains(&date)) >= 250);
+    assert!(count(&|date| (LAST_DATE - 41..LAST_DATE).contains(&date)) >= 150);
     assert!(count(&|date| (LAST_DATE - 4..LAST_DATE).contains(&date)) >= 50);
     assert!(count(&|date| date == LAST_DATE) >= 70);
     assert!(count(&|date| date == LAST_DATE + 1) >= 50);

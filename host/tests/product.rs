@@ -5,6 +5,7 @@ mod common;
 
 use common::sheet_of;
 use host::course::{A, B, C, D, E};
+use host::limits::MAX_BOUND;
 use host::product::{join, OUTPUT};
 use host::refusal::Refusal;
 use host::runs::{satisfies, TimedAction};
@@ -67,7 +68,7 @@ fn two_by_three() -> [Vec<u8>; 2] {
         [3, 1, 2, 2],
         0b101,
         &[
-            &[[1, 2, 1, 0, 30, 0, 255]],
+            &[[1, 2, 1, 0, 40, 0, 255]],
             &[],
             &[
                 [0, 1, 0, 4, 4, 0, 255],
@@ -94,7 +95,7 @@ fn joined_sheet_byte_by_byte() {
         58, 0, 0, 0,
         58, 0, 28, 0,
         // (0, 0): command 1 alone has rules in both.
-        1, 2, 2, 0, 255, 0, 30,
+        1, 2, 2, 0, 255, 0, 40,
         // (0, 2): the first sheet's rule for 0 with both of the second, then 1.
         0, 4, 1, 2, 5, 4, 4,
         0, 5, 3, 2, 5, 5, 7,
@@ -237,7 +238,7 @@ fn locations_at_the_limit() {
     }
 }
 
-/// So many rules for a command that do not meet, 31 at most.
+/// So many rules for a command that do not meet, one for each low at most.
 fn pieces(action: u8, count: u8) -> Vec<[u8; 7]> {
     (0..count)
         .map(|low| [action, 0, 0, low, low, 0, 255])
@@ -274,8 +275,8 @@ fn rules_at_the_limit() {
     require_refused(&crowded(8, 0), &crowded(8, 0), Refusal::I14);
     require_refused(&crowded(16, 0), &crowded(16, 0), Refusal::I14);
     // Rules without partners do not count.
-    let one = sheet_of([1, 1, 2, 0], 1, &[&pieces(0, 31)]);
-    let other = sheet_of([1, 1, 2, 0], 1, &[&pieces(1, 31)]);
+    let one = sheet_of([1, 1, 2, 0], 1, &[&pieces(0, MAX_BOUND + 1)]);
+    let other = sheet_of([1, 1, 2, 0], 1, &[&pieces(1, MAX_BOUND + 1)]);
     assert_eq!(automaton(&one, &other).transition_count(), 0);
     assert_eq!(automaton(&one, &bare_two()).transition_count(), 0);
 }
@@ -292,8 +293,12 @@ fn rules_by_products() {
     require_refused(&sheet(5), &sheet(13), Refusal::I14);
     require_refused(&sheet(13), &sheet(5), Refusal::I14);
     assert_eq!(automaton(&sheet(8), &sheet(8)).transition_count(), 64);
-    assert_eq!(automaton(&sheet(2), &sheet(31)).transition_count(), 62);
-    require_refused(&sheet(3), &sheet(31), Refusal::I14);
+    assert_eq!(automaton(&sheet(2), &sheet(32)).transition_count(), 64);
+    require_refused(&sheet(2), &sheet(33), Refusal::I14);
+    let most = MAX_BOUND + 1;
+    let joined = automaton(&sheet(1), &sheet(most));
+    assert_eq!(joined.transition_count(), most.into());
+    require_refused(&sheet(2), &sheet(most), Refusal::I14);
 }
 
 /// 16 locations and 64 rules fill the output.

@@ -1,6 +1,7 @@
 //! Random pairs of sheets and the comparison of programs that join them: the kinds
 //! show what they are there for, and every wrong program is found.
 
+use host::limits::MAX_BOUND;
 use host::product::compare::{compare, Summary};
 use host::product::words::{taken, words, Taken};
 use host::product::{
@@ -80,6 +81,28 @@ fn pairs_that_are_joined() {
     let both = |case: &Case| automata(case).is_some_and(|both| both.iter().all(several));
     assert!(count("matching", both) > 200);
     assert!(count("matching", |case| number_of(case, rule_count) > 30) > 80);
+}
+
+/// Sheets have the bounds above 30 about as often as others.
+#[test]
+fn large_bounds() {
+    for name in ["small", "matching", "largest", "near_64_rules"] {
+        let has = |bound: u8| {
+            move |case: &Case| {
+                let both = automata(case).expect("both load");
+                let rules = both.iter().flat_map(|it| it.outgoing.iter().flatten());
+                let mut guards = rules.map(|rule| rule.guards[0]);
+                guards.any(|guard| guard.low == bound || guard.high == Some(bound))
+            }
+        };
+        let counts: Vec<usize> = (0..=MAX_BOUND).map(|it| count(name, has(it))).collect();
+        let ordinary = counts[15..25].iter().sum::<usize>() / 10;
+        let mut large = counts[31..].iter();
+        assert!(
+            large.all(|it| *it * 4 >= ordinary * 3),
+            "{name}: {counts:?}"
+        );
+    }
 }
 
 #[test]
@@ -640,8 +663,14 @@ fn words_tell_products_apart() {
     let exchanged = |sheet: &mut [u8]| rules_mut(sheet).for_each(|rule| rule[3..7].rotate_left(2));
     let unbounded = |sheet: &mut [u8]| rules_mut(sheet).for_each(|rule| rule[6] = 255);
     let low = |sheet: &mut [u8]| {
-        let later = rules_mut(sheet).filter(|rule| rule[4] == 255 && rule[3] < 30);
+        let later = rules_mut(sheet).filter(|rule| rule[4] == 255 && rule[3] < MAX_BOUND);
         later.for_each(|rule| rule[3] += 1);
+    };
+    let large_low = |sheet: &mut [u8]| {
+        let is_large = |rule: &&mut [u8]| rule[4] == 255 && (31..MAX_BOUND).contains(&rule[3]);
+        rules_mut(sheet)
+            .filter(is_large)
+            .for_each(|rule| rule[3] += 1);
     };
     let reset = |sheet: &mut [u8]| rules_mut(sheet).for_each(|rule| rule[2] |= 2);
     let kept = |sheet: &mut [u8]| rules_mut(sheet).for_each(|rule| rule[2] &= 1);
@@ -650,11 +679,12 @@ fn words_tell_products_apart() {
         sheet[4..6].copy_from_slice(&all.to_le_bytes()[..2]);
     };
     let nowhere = |sheet: &mut [u8]| sheet[4..6].fill(0);
-    let changes: [(&str, Change, usize); 8] = [
+    let changes: [(&str, Change, usize); 9] = [
         ("nothing", |_| {}, 0),
         ("bounds exchanged", exchanged, 20),
         ("no bounds above for clock 2", unbounded, 20),
         ("lows raised", low, 20),
+        ("lows above 30 raised", large_low, 10),
         ("all resets", reset, 20),
         ("no resets of clock 2", kept, 20),
         ("all accepting", accepting, 20),

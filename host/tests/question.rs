@@ -57,6 +57,7 @@ const LONGEST: &str = include_str!("../questions/longest.txt");
 const MIDDAY: &str = include_str!("../questions/midday.txt");
 const AT_LIMIT: &str = include_str!("../questions/at_limit.txt");
 const LOADED_LATE: &str = include_str!("../questions/loaded_late.txt");
+const SETTLE: &str = include_str!("../questions/settle.txt");
 
 /// Questions P1 to P10.
 const KEYED: [&str; 10] = [
@@ -171,7 +172,7 @@ fn file_of_the_example() {
 #[test]
 fn file_of_the_longest_correction() {
     let lines = desk::run(&checked(LONGEST));
-    assert!(lines.ends_with("16 held 16 lamp 0\n17 scheduled 17 510 lamp 1\n"));
+    assert!(lines.ends_with("16 held 16 lamp 0\n17 scheduled 17 680 lamp 1\n"));
 }
 
 #[test]
@@ -259,12 +260,25 @@ fn files_get_their_keys() {
 }
 
 #[test]
+fn the_file_with_a_large_bound_gets_its_key() {
+    let expected = "sheet 2 1 2 2 1\n\
+        1 held 1 lamp 0\n\
+        2 scheduled 2 48 lamp 0\n\
+        3 held 1 lamp 0\n\
+        4 scheduled 2 84 lamp 0\n\
+        5 played 0 12 1 10 lamp 0\n\
+        6 none lamp 0\n\
+        7 played 1 48 2 12 lamp 0\n";
+    assert_eq!(desk::run(&checked(SETTLE)), expected);
+}
+
+#[test]
 fn files_say_question_and_key() {
     for (number, text) in (1..).zip(KEYED) {
         assert!(text.starts_with(&format!("# P{number}: sheet ")));
         assert!(text.lines().any(|line| line.starts_with("# Key: ")));
     }
-    for text in [EXAMPLE, MIDDAY, AT_LIMIT] {
+    for text in [EXAMPLE, MIDDAY, AT_LIMIT, SETTLE] {
         assert!(text.lines().any(|line| line.starts_with("# Key: ")));
     }
 }
@@ -278,14 +292,14 @@ fn all_that_a_rule_can_say() {
          rule 2 -> 0 on 1 when clock 2 to 8 and clock 1 from 5 reset 2 and 1\n\
          rule 0 -> 1 on 0\n\
          rule 0->2 on 1 when clock 1 from 3 to 3 reset 2 # no blanks\n\
-         rule 2 -> 1 on 0 when clock 2 from 30 reset 1\n\
+         rule 2 -> 1 on 0 when clock 2 from 40 reset 1\n\
          offer 1 at 4\n\
          collect at 7\n"
     );
     let rules: [&[[u8; 7]]; 3] = [
         &[[0, 1, 0, 0, 255, 0, 255], [1, 2, 2, 3, 3, 0, 255]],
         &[],
-        &[[1, 0, 3, 5, 255, 0, 8], [0, 1, 1, 0, 255, 30, 255]],
+        &[[1, 0, 3, 5, 255, 0, 8], [0, 1, 1, 0, 255, 40, 255]],
     ];
     let sheet = common::sheet_of([3, 2, 2, 0], 4, &rules);
     assert_eq!(checked(&text), input(&sheet, &[(1, 4), (COLLECT, 7)]));
@@ -494,7 +508,7 @@ fn longest_sheet_and_back() {
 /// Words for garbled texts.
 const WORDS: &str =
     "rule loaded offer collect at when clock clocks from to and reset -> on none tail # \
-    0 1 2 3 8 30 31 254 255 256 4294967296 x \n";
+    0 1 2 3 8 31 40 41 254 255 256 4294967296 x \n";
 
 /// A text with some of its words changed.
 fn garbled(random: &mut Random, text: &str) -> String {
@@ -720,10 +734,10 @@ fn rule_clock_not_there() {
 
 #[test]
 fn bound_too_large() {
-    let words = ["bound 31 is out of range", "0 to 30"];
-    require_in("rule 0 -> 1 on 0 when clock 1 from 31", &words);
-    require_in("rule 0 -> 1 on 0 when clock 1 to 31", &words);
-    require_in("rule 0 -> 1 on 0 when clock 1 from 1 to 31", &words);
+    let words = ["bound 41 is out of range", "0 to 40"];
+    require_in("rule 0 -> 1 on 0 when clock 1 from 41", &words);
+    require_in("rule 0 -> 1 on 0 when clock 1 to 41", &words);
+    require_in("rule 0 -> 1 on 0 when clock 1 from 1 to 41", &words);
     require_always("rule 0 -> 1 on 0 when clock 1 from 256", &["bound 256"]);
 }
 
@@ -825,7 +839,7 @@ fn overlapping_rules() {
     let text = format!(
         "{HEADER}rule 0 -> 1 on 1 when clock 1 to 5\n\
          rule 0 -> 1 on 0 when clock 1 to 5\n\
-         rule 1 -> 1 on 0 when clock 1 to 30\n\n\
+         rule 1 -> 1 on 0 when clock 1 to 40\n\n\
          rule 0 -> 2 on 0 when clock 1 from 5\n"
     );
     let words = [
@@ -1012,7 +1026,7 @@ fn refused_sheets_without_checks() {
         ("rule 0 -> 1 on 0 reset 2", "I-5"),
         ("rule 0 -> 1 on 0 reset 3", "I-5"),
         ("rule 0 -> 1 on 0 reset 8", "I-5"),
-        ("rule 0 -> 1 on 0 when clock 1 to 31", "I-5"),
+        ("rule 0 -> 1 on 0 when clock 1 to 41", "I-5"),
         ("rule 0 -> 1 on 0 when clock 1 to 254", "I-5"),
         ("rule 0 -> 1 on 0 when clock 1 from 255", "I-5"),
         ("rule 0 -> 1 on 0 when clock 1 from 6 to 5", "I-5"),

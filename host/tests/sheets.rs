@@ -5,6 +5,7 @@ mod common;
 
 use common::sheet_of;
 use host::course::{A, B};
+use host::limits::MAX_BOUND;
 use host::refusal::Refusal;
 use host::runs::Configuration;
 use host::sets::ConfigurationSet;
@@ -40,11 +41,14 @@ fn reason_one_clock(rule: [u8; 7]) -> Option<Refusal> {
     reason(&sheet_of([1, 1, 2, 0], 1, &[&[rule]]))
 }
 
-/// Rules for one location that do not overlap: two commands, each with the
-/// readings 0 to 30 of clock 1 one by one, and by clock 2 after that.
+/// How many lows there are.
+const LOWS: usize = MAX_BOUND as usize + 1;
+
+/// Rules for one location that do not overlap: two commands, each with the lows
+/// of clock 1 one by one, and by clock 2 after that.
 fn many_rules(count: usize) -> Vec<[u8; 7]> {
     let rule = |index: usize| {
-        let (action, low_1, low_2) = (index % 2, index / 2 % 31, index / 62);
+        let (action, low_1, low_2) = (index % 2, index / 2 % LOWS, index / (2 * LOWS));
         [action, 0, 0, low_1, low_1, low_2, low_2].map(|number| number as u8)
     };
     (0..count).map(rule).collect()
@@ -253,16 +257,20 @@ fn i5_bounds_of_both_clocks() {
             rule[clock + 1] = high;
             reason_rules(&[rule])
         };
-        assert_eq!(with(30, 255), None);
-        assert_eq!(with(31, 255), Some(Refusal::I5));
+        for bound in 30..=40 {
+            assert_eq!(with(bound, 255), None);
+            assert_eq!(with(0, bound), None);
+            assert_eq!(with(bound, bound), None);
+            assert_eq!(with(bound, bound - 1), Some(Refusal::I5));
+        }
+        for bound in 41..=254 {
+            assert_eq!(with(bound, 255), Some(Refusal::I5));
+            assert_eq!(with(0, bound), Some(Refusal::I5));
+            assert_eq!(with(bound, bound), Some(Refusal::I5));
+            assert_eq!(with(40, bound), Some(Refusal::I5));
+        }
         assert_eq!(with(255, 255), Some(Refusal::I5));
         assert_eq!(with(0, 0), None);
-        assert_eq!(with(0, 30), None);
-        assert_eq!(with(0, 31), Some(Refusal::I5));
-        assert_eq!(with(0, 254), Some(Refusal::I5));
-        assert_eq!(with(31, 31), Some(Refusal::I5));
-        assert_eq!(with(30, 30), None);
-        assert_eq!(with(30, 29), Some(Refusal::I5));
         assert_eq!(with(1, 0), Some(Refusal::I5));
         assert_eq!(with(5, 5), None);
         assert_eq!(with(6, 5), Some(Refusal::I5));
@@ -273,17 +281,19 @@ fn i5_bounds_of_both_clocks() {
 fn i5_one_clock() {
     assert_eq!(reason_one_clock([0, 0, 1, 3, 9, 0, 255]), None);
     assert_eq!(reason_one_clock([0, 0, 1, 3, 9, 1, 255]), Some(Refusal::I5));
-    assert_eq!(reason_one_clock([0, 0, 1, 3, 9, 0, 30]), Some(Refusal::I5));
+    assert_eq!(reason_one_clock([0, 0, 1, 3, 9, 0, 40]), Some(Refusal::I5));
     assert_eq!(reason_one_clock([0, 0, 1, 3, 9, 0, 254]), Some(Refusal::I5));
     assert_eq!(reason_one_clock([0, 0, 1, 3, 9, 0, 0]), Some(Refusal::I5));
     assert_eq!(reason_one_clock([0, 0, 2, 3, 9, 0, 255]), Some(Refusal::I5));
     assert_eq!(reason_one_clock([0, 0, 3, 3, 9, 0, 255]), Some(Refusal::I5));
     // Clock 1 keeps its own range.
-    assert_eq!(reason_one_clock([0, 0, 0, 30, 30, 0, 255]), None);
-    assert_eq!(
-        reason_one_clock([0, 0, 0, 0, 31, 0, 255]),
-        Some(Refusal::I5)
-    );
+    for bound in 30..=40 {
+        assert_eq!(reason_one_clock([0, 0, 0, bound, bound, 0, 255]), None);
+    }
+    for bound in [41, 42, 254] {
+        let rule = [0, 0, 0, 0, bound, 0, 255];
+        assert_eq!(reason_one_clock(rule), Some(Refusal::I5));
+    }
 }
 
 #[test]
@@ -299,9 +309,11 @@ fn i6_one_clock() {
     assert_eq!(two([0, 255], [3, 3]), Some(Refusal::I6));
     assert_eq!(two([3, 3], [3, 3]), Some(Refusal::I6));
     assert_eq!(two([3, 3], [4, 4]), None);
-    assert_eq!(two([29, 255], [30, 255]), Some(Refusal::I6));
-    assert_eq!(two([0, 29], [30, 255]), None);
-    assert_eq!(two([0, 30], [30, 255]), Some(Refusal::I6));
+    for low in [30, 31, 40] {
+        assert_eq!(two([low - 1, 255], [low, 255]), Some(Refusal::I6));
+        assert_eq!(two([0, low - 1], [low, 255]), None);
+        assert_eq!(two([0, low], [low, 255]), Some(Refusal::I6));
+    }
     assert_eq!(two([2, 9], [4, 6]), Some(Refusal::I6));
 }
 
@@ -318,7 +330,7 @@ fn i6_two_clocks() {
     assert_eq!(two([0, 5, 0, 5], [6, 9, 5, 9]), None);
     // Meeting in both is I-6, also at readings that no run reaches together.
     assert_eq!(two([0, 5, 0, 5], [5, 9, 5, 9]), Some(Refusal::I6));
-    assert_eq!(two([0, 0, 20, 255], [0, 255, 30, 30]), Some(Refusal::I6));
+    assert_eq!(two([0, 0, 20, 255], [0, 255, 40, 40]), Some(Refusal::I6));
     assert_eq!(two([0, 255, 7, 7], [12, 12, 0, 255]), Some(Refusal::I6));
 }
 
@@ -451,5 +463,6 @@ fn sets_within_bounds() {
             plays(&first, 0, reading) == expected && plays(&second, 1, reading) == expected
         }));
     }
-    assert_eq!(loaded, 31 * 32 / 2 + 31);
+    // Each low with each high that is not below it, and with no upper bound.
+    assert_eq!(loaded, LOWS * (LOWS + 1) / 2 + LOWS);
 }

@@ -7,7 +7,7 @@ use Prim.Native.Nat.{ℕ}
 use native.Mathlib.Omega.{arith}
 use Rattle.enforcement.specs.Automaton.{Bytes, Automaton, automaton, transitions, transitionsOver}
 use Rattle.enforcement.specs.TimedWord.{Event, stamp, fireFirst}
-use Rattle.enforcement.specs.Loading.{Bounded, WellFormed, Checked, check, accepted, refused, sizePasses, headerPasses, initialPasses, pairsPass, layoutPasses, fits, allFit, overlap, overlapsNone, disjoint, disjointOver}
+use Rattle.enforcement.specs.Loading.{Bounded, WellFormed, Checked, checkUpTo, check, accepted, refused, sizePasses, headerPasses, initialPasses, pairsPass, layoutPasses, fitsUpTo, allFitUpTo, overlap, overlapsNone, disjoint, disjointOver}
 use Rattle.enforcement.specs.History.{Slot, wordOf, HistoryOf, Outcome, place}
 use Rattle.enforcement.specs.Constraints.{playedOf}
 use Rattle.enforcement.specs.Model.{compile, cells, look, memo, tabled, steps, waits, tower, reads, ended, plan, successors, explore, reaches}
@@ -71,5 +71,5 @@ key q es e =
 
 -- The table, worked out: each line computes.
 pub keys-right : AllRight keys
-unfolding worked check sizePasses headerPasses initialPasses pairsPass layoutPasses fits allFit overlap overlapsNone disjoint disjointOver transitions transitionsOver stamp place fireFirst cells look memo tabled steps waits tower reads ended plan successors explore reaches compile walk placed kept decided checked offered taken oldest picked collected noneNext isLit lampLit answer replay
+unfolding worked checkUpTo sizePasses headerPasses initialPasses pairsPass layoutPasses fitsUpTo allFitUpTo overlap overlapsNone disjoint disjointOver transitions transitionsOver stamp place fireFirst cells look memo tabled steps waits tower reads ended plan successors explore reaches compile walk placed kept decided checked offered taken oldest picked collected noneNext isLit lampLit answer replay
 keys-right = (key p1 [] refl, (key p2 (p1 .events) refl, (key p3 (p1 .events ++ p2 .events) refl, (key p4 [] refl, (key p5 [] refl, (key p6 (p5 .events) refl, (key p7 [] refl, (key p8 [] refl, (key p9 [] refl, (key p10 [] refl, tt))))))))))

@@ -28,3 +28,4 @@ pub mod Promises
 pub mod Clocks
 pub mod Shifting
 pub mod Shifts
+pub mod Widening

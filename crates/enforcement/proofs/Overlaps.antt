@@ -9,29 +9,27 @@ use Prim.Native.Nat.{ℕ, zero, suc, _+_, _≤_, max}
 use native.Mathlib.Omega.{arith}
 use native.Mathlib.Nat.{eq-or-lt-of-le}
 use lib.Dec.{T, leb, eqb}
-use Rattle.enforcement.specs.Limits.{maxBound}
 use Rattle.enforcement.specs.Automaton.{Bytes, locations, Transition, transitions, allTransitions, within, enabled}
 use Rattle.enforcement.specs.TimedWord.{Configuration, fire, fireFirst, step}
-use Rattle.enforcement.specs.Reason.{I-6}
-use Rattle.enforcement.specs.Loading.{Bounds, Fits, AllFit, Overlap, OverlapsOne, OverlapIn, Holds, overlap, overlapsNone, disjoint, disjointOver, Bounded, Deterministic}
+use Rattle.enforcement.specs.Loading.{BoundsUpTo, FitsUpTo, AllFitUpTo, Overlap, OverlapsOne, OverlapIn, overlap, overlapsNone, disjoint, disjointOver, Deterministic}
 use Rattle.enforcement.proofs.Tests.{Tests, Finds, true-false, T-tests, leb-tests, eqb-tests, both-tests, both-finds, tests-same, finds-same, finds-opposite, proved, test-true, shown}
 use Rattle.enforcement.proofs.Comparisons.{within-tests}
 use Rattle.enforcement.proofs.Pairs.{transitions-none}
-use Rattle.enforcement.proofs.Fitting.{all-bounded}
+use Rattle.enforcement.proofs.Fitting.{each-fits}
 
--- ---- The test
+-- ---- The test, of transitions whose bounds are up to 255: a high of 255 is above every low.
 
 -- Some reading lies within both bounds.
 abbrev Meet : ℕ → ℕ → ℕ → ℕ → Type 0
 Meet a b c d = (x : ℕ) × T (within a b x) × T (within c d x)
 
-meet-tests : (a b c d : ℕ) → Bounds a b → Bounds c d → Tests (leb a d && leb c b) (Meet a b c d)
+meet-tests : (a b c d : ℕ) → BoundsUpTo 255 a b → BoundsUpTo 255 c d → Tests (leb a d && leb c b) (Meet a b c d)
 meet-tests a b c d h k = tests-same both-low meeting (both-tests (leb-tests a d) (leb-tests c b))
   where
     both-low : (a ≤ d) × (c ≤ b) → Meet a b c d
     both-low x = (max a c, shown (within-tests a b (max a c)) (omega arith, inr (omega (arith, h .ordered))), shown (within-tests c d (max a c)) (omega arith, inr (omega (arith, k .ordered))))
 
-    reach : (low high x : ℕ) → low ≤ maxBound → low ≤ x → (high ≡ 255) ⊎ (x ≤ high) → low ≤ high
+    reach : (low high x : ℕ) → low ≤ 255 → low ≤ x → (high ≡ 255) ⊎ (x ≤ high) → low ≤ high
     reach low high x l m (inl e) = omega arith
     reach low high x l m (inr e) = omega arith
 
@@ -44,7 +42,7 @@ meet-tests a b c d h k = tests-same both-low meeting (both-tests (leb-tests a d)
 enabled-tests : (t : Transition) (x y : ℕ) → Tests (enabled t x y) (T (within (t .low1) (t .high1) x) × T (within (t .low2) (t .high2) y))
 enabled-tests t x y = both-tests (T-tests (within (t .low1) (t .high1) x)) (T-tests (within (t .low2) (t .high2) y))
 
-overlap-tests : (s : Bytes) (t u : Transition) → Fits s t → Fits s u → Tests (overlap t u) (Overlap t u)
+overlap-tests : (s : Bytes) (t u : Transition) → FitsUpTo 255 s t → FitsUpTo 255 s u → Tests (overlap t u) (Overlap t u)
 unfolding overlap
 overlap-tests s t u h k =
     tests-same
@@ -52,18 +50,18 @@ overlap-tests s t u h k =
     (λ m. let a = proved (enabled-tests t (m .x) (m .y)) (m .enables-one) in let b = proved (enabled-tests u (m .x) (m .y)) (m .enables-other) in (m .same-action, ((m .x, a .0, b .0), (m .y, a .1, b .1))))
     (both-tests (eqb-tests (t .action) (u .action)) (both-tests (meet-tests (t .low1) (t .high1) (u .low1) (u .high1) (h .first) (k .first)) (meet-tests (t .low2) (t .high2) (u .low2) (u .high2) (h .second) (k .second))))
 
-none-finds : (s : Bytes) (t : Transition) (us : List Transition) → Fits s t → AllFit s us → Finds (overlapsNone t us) (OverlapsOne t us)
+none-finds : (s : Bytes) (t : Transition) (us : List Transition) → FitsUpTo 255 s t → AllFitUpTo 255 s us → Finds (overlapsNone t us) (OverlapsOne t us)
 unfolding overlapsNone
 none-finds s t [] h k = record { passes = λ e x. x; fails = λ e. true-false refl e }
 none-finds s t (u ∷ us) h k = both-finds (finds-opposite (overlap-tests s t u h (k .0))) (none-finds s t us h (k .1))
 
-disjoint-finds : (s : Bytes) (ts : List Transition) → AllFit s ts → Finds (disjoint ts) (OverlapIn ts)
+disjoint-finds : (s : Bytes) (ts : List Transition) → AllFitUpTo 255 s ts → Finds (disjoint ts) (OverlapIn ts)
 unfolding disjoint
 disjoint-finds s [] h = record { passes = λ e x. x; fails = λ e. true-false refl e }
 disjoint-finds s (t ∷ ts) h = both-finds (none-finds s t ts (h .0) (h .1)) (disjoint-finds s ts (h .1))
 
-over-finds : (s : Bytes) (n l : ℕ) → Bounded s → l + n ≡ locations s → Finds (disjointOver s n l) ((k : ℕ) × (l ≤ k) × OverlapIn (transitions s k))
-unfolding disjointOver Bounded
+over-finds : (s : Bytes) (n l : ℕ) → ((k : ℕ) → AllFitUpTo 255 s (transitions s k)) → l + n ≡ locations s → Finds (disjointOver s n l) ((k : ℕ) × (l ≤ k) × OverlapIn (transitions s k))
+unfolding disjointOver
 over-finds s zero l h e = record { passes = λ f m. subst OverlapIn (transitions-none s (m .0) (omega (arith, m .1))) (m .2); fails = λ f. true-false refl f }
 over-finds s (suc n) l h e = finds-same here there (both-finds (disjoint-finds s (transitions s l) (h l)) (over-finds s n (suc l) h (omega arith)))
   where
@@ -74,9 +72,8 @@ over-finds s (suc n) l h e = finds-same here there (both-finds (disjoint-finds s
     there : (k : ℕ) × (l ≤ k) × OverlapIn (transitions s k) → OverlapIn (transitions s l) ⊎ ((k : ℕ) × (suc l ≤ k) × OverlapIn (transitions s k))
     there m = elim (eq-or-lt-of-le (m .1)) [ inl q ↦ inl (subst (λ (k : ℕ). OverlapIn (transitions s k)) (sym q) (m .2)) | inr q ↦ inr (m .0, q, m .2) ]
 
-pub overlap-finds : (s : Bytes) (d : ℕ) → AllFit s (allTransitions s) → Finds (disjointOver s (locations s) 0) (Holds I-6 s d)
-unfolding Holds
-overlap-finds s d h = finds-same (λ m. (m .0, m .2)) (λ m. (m .0, omega arith, m .1)) (over-finds s (locations s) 0 (all-bounded s h) (omega arith))
+pub overlap-finds : (s : Bytes) → AllFitUpTo 255 s (allTransitions s) → Finds (disjointOver s (locations s) 0) ((l : ℕ) × OverlapIn (transitions s l))
+overlap-finds s h = finds-same (λ m. (m .0, m .2)) (λ m. (m .0, omega arith, m .1)) (over-finds s (locations s) 0 (each-fits 255 s h) (omega arith))
 
 -- ---- At most one is enabled
 

@@ -12,3 +12,4 @@ pub mod Model
 pub mod Monitor
 pub mod Demands
 pub mod Shift
+pub mod Widening

@@ -1,4 +1,4 @@
--- The limits of the box (document 01, and request F-2 of document 02): each of the six numbers stands here once.
+-- The limits of the box (document 01, and requests F-2 and F-7 of document 02): each of the six numbers stands here once.
 use Prim.Native.Nat.{ℕ, _+_, _*_}
 
 -- The most locations, the most actions, and the most pending actions (the held list).
@@ -7,7 +7,7 @@ maxCount = 16
 
 -- The largest bound of a guard.
 abbrev pub maxBound : ℕ
-maxBound = 30
+maxBound = 40
 
 -- The most scheduled events that have not been played.
 abbrev pub maxScheduled : ℕ

@@ -1,4 +1,4 @@
--- The check of a sheet and its loading date (document 01, and request F-5 of document 02): the condition of each refusal, what the check answers, and what an accepted sheet gives.
+-- The check of a sheet and its loading date (document 01, and requests F-5 and F-7 of document 02): the condition of each refusal, what the check answers, and what an accepted sheet gives.
 use mathlib.Core.Path.{_≡_}
 use mathlib.Core.Bool.{Bool, true, false, _&&_, _||_, not}
 use mathlib.Core.List.{List, [], _∷_}
@@ -37,10 +37,10 @@ pub record Layout (s : Bytes) : Type 0 where
   pub whole : (l : ℕ) → l < locations s → size s l % 7 ≡ 0
   pub to-the-end : endBefore s (locations s) ≡ length s
 
--- A low of 0 to 30, a high of 0 to 30 or 255 for no upper bound, and the low is not above the high.
-pub record Bounds (low high : ℕ) : Type 0 where
-  pub low-fits : low ≤ maxBound
-  pub high-fits : (high ≤ maxBound) ⊎ (high ≡ 255)
+-- A low up to b, a high up to b or 255 for no upper bound, and the low is not above the high. Here and below b is the largest bound.
+pub record BoundsUpTo (b low high : ℕ) : Type 0 where
+  pub low-fits : low ≤ b
+  pub high-fits : (high ≤ b) ⊎ (high ≡ 255)
   pub ordered : low ≤ high
 
 -- With one clock the bounds of clock 2 are 0 and 255, and it is not in the reset set.
@@ -50,17 +50,27 @@ pub record OneClock (t : Transition) : Type 0 where
   pub kept : bit (t .resets) 1 ≡ false
 
 -- A transition whose fields are in range.
-pub record Fits (s : Bytes) (t : Transition) : Type 0 where
+pub record FitsUpTo (b : ℕ) (s : Bytes) (t : Transition) : Type 0 where
   pub action-fits : t .action < actions s
   pub target-fits : t .target < locations s
   pub resets-fit : t .resets ≤ 3
-  pub first : Bounds (t .low1) (t .high1)
-  pub second : Bounds (t .low2) (t .high2)
+  pub first : BoundsUpTo b (t .low1) (t .high1)
+  pub second : BoundsUpTo b (t .low2) (t .high2)
   pub one-clock : clocks s ≡ 1 → OneClock t
 
+abbrev pub AllFitUpTo : ℕ → Bytes → List Transition → Type 0
+AllFitUpTo b s [] = Unit {0}
+AllFitUpTo b s (t ∷ ts) = FitsUpTo b s t × AllFitUpTo b s ts
+
+-- The same with the box's own largest bound.
+abbrev pub Bounds : ℕ → ℕ → Type 0
+Bounds low high = BoundsUpTo maxBound low high
+
+abbrev pub Fits : Bytes → Transition → Type 0
+Fits s t = FitsUpTo maxBound s t
+
 abbrev pub AllFit : Bytes → List Transition → Type 0
-AllFit s [] = Unit {0}
-AllFit s (t ∷ ts) = Fits s t × AllFit s ts
+AllFit s ts = AllFitUpTo maxBound s ts
 
 -- Two transitions for one action that some readings, reached by a run or not, both enable.
 pub record Overlap (t u : Transition) : Type 0 where
@@ -81,30 +91,40 @@ OverlapIn (t ∷ ts) = OverlapsOne t ts ⊎ OverlapIn ts
 
 -- ---- When the load refuses
 
--- The condition of each reason, of a sheet and the date at which it is loaded. The load has the first six, and I-8.
-unfoldable pub Holds : Reason → Bytes → ℕ → Type 0
-Holds I-1 s d = (length s < 6) ⊎ (maxSize < length s)
-Holds I-2 s d = HeaderFits s → ⊥
-Holds I-3 s d = (locations s ≤ initial s) ⊎ BitBeyond s
-Holds I-4 s d = (length s < 6 + 4 * locations s) ⊎ ((Layout s → ⊥) ⊎ (maxTransitions < length (allTransitions s)))
-Holds I-5 s d = AllFit s (allTransitions s) → ⊥
-Holds I-6 s d = (l : ℕ) × OverlapIn (transitions s l)
-Holds I-7 s d = ⊥
-Holds I-8 s d = maxDate < d
-Holds S-1 s d = ⊥
-Holds S-2 s d = ⊥
-Holds S-3 s d = ⊥
-Holds S-4 s d = ⊥
-Holds S-5 s d = ⊥
+-- The condition of each reason, of a sheet and the date at which it is loaded. The load has the first six, and I-8. Only that of I-5 reads the largest bound.
+unfoldable pub HoldsUpTo : ℕ → Reason → Bytes → ℕ → Type 0
+HoldsUpTo b I-1 s d = (length s < 6) ⊎ (maxSize < length s)
+HoldsUpTo b I-2 s d = HeaderFits s → ⊥
+HoldsUpTo b I-3 s d = (locations s ≤ initial s) ⊎ BitBeyond s
+HoldsUpTo b I-4 s d = (length s < 6 + 4 * locations s) ⊎ ((Layout s → ⊥) ⊎ (maxTransitions < length (allTransitions s)))
+HoldsUpTo b I-5 s d = AllFitUpTo b s (allTransitions s) → ⊥
+HoldsUpTo b I-6 s d = (l : ℕ) × OverlapIn (transitions s l)
+HoldsUpTo b I-7 s d = ⊥
+HoldsUpTo b I-8 s d = maxDate < d
+HoldsUpTo b S-1 s d = ⊥
+HoldsUpTo b S-2 s d = ⊥
+HoldsUpTo b S-3 s d = ⊥
+HoldsUpTo b S-4 s d = ⊥
+HoldsUpTo b S-5 s d = ⊥
 
 -- The reason's condition holds, and no earlier one does.
-pub record Given (r : Reason) (s : Bytes) (d : ℕ) : Type 0 where
-  pub holds : Holds r s d
-  pub none-earlier : (q : Reason) → number q < number r → Holds q s d → ⊥
+pub record GivenUpTo (b : ℕ) (r : Reason) (s : Bytes) (d : ℕ) : Type 0 where
+  pub holds : HoldsUpTo b r s d
+  pub none-earlier : (q : Reason) → number q < number r → HoldsUpTo b q s d → ⊥
 
 -- No condition holds: the sheet is accepted at that date.
+abbrev pub LoadsUpTo : ℕ → Bytes → ℕ → Type 0
+LoadsUpTo b s d = (r : Reason) → HoldsUpTo b r s d → ⊥
+
+-- The same with the box's own largest bound.
+abbrev pub Holds : Reason → Bytes → ℕ → Type 0
+Holds r s d = HoldsUpTo maxBound r s d
+
+abbrev pub Given : Reason → Bytes → ℕ → Type 0
+Given r s d = GivenUpTo maxBound r s d
+
 abbrev pub Loads : Bytes → ℕ → Type 0
-Loads s d = (r : Reason) → Holds r s d → ⊥
+Loads s d = LoadsUpTo maxBound s d
 
 -- A sheet without a refusal of its own: it loads at date 0, and so at every date up to the last one (`loads-is`).
 abbrev pub WellFormed : Bytes → Type 0
@@ -145,18 +165,18 @@ pairsPass s (suc n) l e = eqb (offset s l) e && (eqb (size s l % 7) 0 && pairsPa
 unfoldable pub layoutPasses : Bytes → Bool
 layoutPasses s = leb (6 + 4 * locations s) (length s) && (pairsPass s (locations s) 0 (6 + 4 * locations s) && leb (length (allTransitions s)) maxTransitions)
 
-abbrev pub boundsPass : ℕ → ℕ → Bool
-boundsPass low high = leb low maxBound && ((leb high maxBound || eqb high 255) && leb low high)
+abbrev pub boundsPassUpTo : ℕ → ℕ → ℕ → Bool
+boundsPassUpTo b low high = leb low b && ((leb high b || eqb high 255) && leb low high)
 
 abbrev pub oneClockPasses : Transition → Bool
 oneClockPasses t = eqb (t .low2) 0 && (eqb (t .high2) 255 && not (bit (t .resets) 1))
 
-unfoldable pub fits : Bytes → Transition → Bool
-fits s t = (ltb (t .action) (actions s) && (ltb (t .target) (locations s) && leb (t .resets) 3)) && ((boundsPass (t .low1) (t .high1) && boundsPass (t .low2) (t .high2)) && (not (eqb (clocks s) 1) || oneClockPasses t))
+unfoldable pub fitsUpTo : ℕ → Bytes → Transition → Bool
+fitsUpTo b s t = (ltb (t .action) (actions s) && (ltb (t .target) (locations s) && leb (t .resets) 3)) && ((boundsPassUpTo b (t .low1) (t .high1) && boundsPassUpTo b (t .low2) (t .high2)) && (not (eqb (clocks s) 1) || oneClockPasses t))
 
-unfoldable pub allFit : Bytes → List Transition → Bool
-allFit s [] = true
-allFit s (t ∷ ts) = fits s t && allFit s ts
+unfoldable pub allFitUpTo : ℕ → Bytes → List Transition → Bool
+allFitUpTo b s [] = true
+allFitUpTo b s (t ∷ ts) = fitsUpTo b s t && allFitUpTo b s ts
 
 -- The intervals of both clocks meet, and the action is the same. A high of 255 is above every low.
 unfoldable pub overlap : Transition → Transition → Bool
@@ -180,24 +200,40 @@ unless true r k = k
 unless false r k = refused r
 
 -- The reasons are tested in order, each over the whole sheet, and then the date.
-unfoldable pub check : Bytes → ℕ → Checked
-check s d =
+unfoldable pub checkUpTo : ℕ → Bytes → ℕ → Checked
+checkUpTo b s d =
     unless (sizePasses s) I-1
     (unless (headerPasses s) I-2
     (unless (initialPasses s) I-3
     (unless (layoutPasses s) I-4
-    (unless (allFit s (allTransitions s)) I-5
+    (unless (allFitUpTo b s (allTransitions s)) I-5
     (unless (disjointOver s (locations s) 0) I-6
     (unless (leb d maxDate) I-8
     (accepted (countsOf s))))))))
 
+-- The same with the box's own largest bound.
+abbrev pub boundsPass : ℕ → ℕ → Bool
+boundsPass low high = boundsPassUpTo maxBound low high
+
+abbrev pub fits : Bytes → Transition → Bool
+fits s t = fitsUpTo maxBound s t
+
+abbrev pub allFit : Bytes → List Transition → Bool
+allFit s ts = allFitUpTo maxBound s ts
+
+abbrev pub check : Bytes → ℕ → Checked
+check s d = checkUpTo maxBound s d
+
 -- ---- What is promised of the check, and of a sheet that it accepts
 
 -- A reason is answered exactly when its condition holds and no earlier one does; the counts exactly when none holds.
-pub record CheckRight (s : Bytes) (d : ℕ) : Type 0 where
-  pub refuses : (r : Reason) → (check s d ≡ refused r) ↔ Given r s d
-  pub accepts : (check s d ≡ accepted (countsOf s)) ↔ Loads s d
-  pub one-of : (check s d ≡ accepted (countsOf s)) ⊎ ((r : Reason) × (check s d ≡ refused r))
+pub record CheckRightUpTo (b : ℕ) (s : Bytes) (d : ℕ) : Type 0 where
+  pub refuses : (r : Reason) → (checkUpTo b s d ≡ refused r) ↔ GivenUpTo b r s d
+  pub accepts : (checkUpTo b s d ≡ accepted (countsOf s)) ↔ LoadsUpTo b s d
+  pub one-of : (checkUpTo b s d ≡ accepted (countsOf s)) ⊎ ((r : Reason) × (checkUpTo b s d ≡ refused r))
+
+abbrev pub CheckRight : Bytes → ℕ → Type 0
+CheckRight s d = CheckRightUpTo maxBound s d
 
 -- What runs need of an automaton: the bounds of every transition, and that it stays among the locations.
 unfoldable pub Bounded : Bytes → Type 0

@@ -1,4 +1,4 @@
-// The keys that document 01 prints.
+// The keys that document 01 prints, with its largest bound as document 02 has it.
 use crate::ask::ask_all;
 
 // Questions P1 to P10, with collections after some that show the dates.
@@ -30,8 +30,10 @@ A full schedule; A; 33 x 0 at 0, 255 at 0, 0 at 0, 0 at 0; Thirty-two are schedu
 pub fn bounds() {
     ask_all(
         b"\
-High 30; 3 1 2 0 4 0, 18 0 7 0 25 0 7 0 32 0 0 0, 0 1 0 0 30 0 255, 1 2 0 0 20 0 255; ; 30 is the largest bound.
-High 31; 3 1 2 0 4 0, 18 0 7 0 25 0 7 0 32 0 0 0, 0 1 0 0 31 0 255, 1 2 0 0 20 0 255; ; 31 is above it.
+High 40; 3 1 2 0 4 0, 18 0 7 0 25 0 7 0 32 0 0 0, 0 1 0 0 40 0 255, 1 2 0 0 20 0 255; ; 40 is the largest bound.
+High 41; 3 1 2 0 4 0, 18 0 7 0 25 0 7 0 32 0 0 0, 0 1 0 0 41 0 255, 1 2 0 0 20 0 255; ; 41 is above it.
+High 30; 3 1 2 0 4 0, 18 0 7 0 25 0 7 0 32 0 0 0, 0 1 0 0 30 0 255, 1 2 0 0 20 0 255; ; 30 loads as before.
+High 31; 3 1 2 0 4 0, 18 0 7 0 25 0 7 0 32 0 0 0, 0 1 0 0 31 0 255, 1 2 0 0 20 0 255; ; 31 is below it.
 0 to 4 and 5 to 255; 1 1 1 0 1 0, 10 0 14 0, 0 0 0 0 4 0 255, 0 0 0 5 255 0 255; ; Intervals that touch in no reading.
 0 to 5 and 5 to 255; 1 1 1 0 1 0, 10 0 14 0, 0 0 0 0 5 0 255, 0 0 0 5 255 0 255; ; Reading 5 satisfies both.
 ",

@@ -56,13 +56,13 @@ Two locations, the first empty; 2 1 1 0 1 0, 14 0 0 0 14 0 7 0, 0 0 0 0 255 0 25
 pub fn fields() {
     ask_all(
         b"\
-A rule in range; 1 1 2 0 1 0, 10 0 7 0, 1 0 1 30 30 0 255; ; Command 1 of 2, location 0 of 1, reset of clock 1, bounds 30.
+A rule in range; 1 1 2 0 1 0, 10 0 7 0, 1 0 1 40 40 0 255; ; Command 1 of 2, location 0 of 1, reset of clock 1, bounds 40.
 Command 2 of 2; 1 1 2 0 1 0, 10 0 7 0, 2 0 0 0 255 0 255; ; Not below the commands.
 Next location 1 of 1; 1 1 2 0 1 0, 10 0 7 0, 0 1 0 0 255 0 255; ; Not below the locations.
 Reset of clock 2; 1 1 2 0 1 0, 10 0 7 0, 0 0 2 0 255 0 255; ; There is one clock.
 Reset of both clocks; 1 1 2 0 1 0, 10 0 7 0, 0 0 3 0 255 0 255; ; There is one clock.
 Low of clock 2; 1 1 2 0 1 0, 10 0 7 0, 0 0 0 0 255 1 255; ; With one clock it is 0.
-High of clock 2; 1 1 2 0 1 0, 10 0 7 0, 0 0 0 0 255 0 30; ; With one clock it is 255.
+High of clock 2; 1 1 2 0 1 0, 10 0 7 0, 0 0 0 0 255 0 40; ; With one clock it is 255.
 ",
     );
 }
@@ -71,14 +71,16 @@ High of clock 2; 1 1 2 0 1 0, 10 0 7 0, 0 0 0 0 255 0 30; ; With one clock it is
 pub fn guards() {
     ask_all(
         b"\
-Low 31; 1 1 2 0 1 0, 10 0 7 0, 0 0 0 31 255 0 255; ; A low is 0 to 30.
-High 254; 1 1 2 0 1 0, 10 0 7 0, 0 0 0 0 254 0 255; ; A high is 0 to 30, or 255.
+Low 41; 1 1 2 0 1 0, 10 0 7 0, 0 0 0 41 255 0 255; ; A low is 0 to 40.
+High 254; 1 1 2 0 1 0, 10 0 7 0, 0 0 0 0 254 0 255; ; A high is 0 to 40, or 255.
+Low 31; 1 1 2 0 1 0, 10 0 7 0, 0 0 0 31 255 0 255; ; 31 is below 40.
 Low above high; 1 1 2 0 1 0, 10 0 7 0, 0 0 0 5 4 0 255; ; 5 is above 4.
 Low and high alike; 1 1 2 0 1 0, 10 0 7 0, 0 0 0 5 5 0 255; ; One reading.
-Both clocks in range; 1 2 2 0 1 0, 10 0 7 0, 0 0 3 0 30 30 255; ; 30 is a low and a high; both clocks are reset.
+Both clocks in range; 1 2 2 0 1 0, 10 0 7 0, 0 0 3 0 40 40 255; ; 40 is a low and a high; both clocks are reset.
 Reset set 4; 1 2 2 0 1 0, 10 0 7 0, 0 0 4 0 255 0 255; ; A reset set is 0 to 3.
-Low 31 of clock 2; 1 2 2 0 1 0, 10 0 7 0, 0 0 0 0 255 31 255; ; A low is 0 to 30.
-High 31 of clock 2; 1 2 2 0 1 0, 10 0 7 0, 0 0 0 0 255 0 31; ; A high is 0 to 30, or 255.
+Low 41 of clock 2; 1 2 2 0 1 0, 10 0 7 0, 0 0 0 0 255 41 255; ; A low is 0 to 40.
+High 41 of clock 2; 1 2 2 0 1 0, 10 0 7 0, 0 0 0 0 255 0 41; ; A high is 0 to 40, or 255.
+31 to 31 of clock 2; 1 2 2 0 1 0, 10 0 7 0, 0 0 0 0 255 31 31; ; 31 is below 40.
 Low above high of clock 2; 1 2 2 0 1 0, 10 0 7 0, 0 0 0 0 255 7 6; ; 7 is above 6.
 ",
     );

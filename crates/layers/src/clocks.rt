@@ -44,21 +44,29 @@ fn ticks(n: u32) {
     print::word(b"\n");
 }
 
-// 31 stands for every reading above 30.
+// Readings up to the largest bound, 40, are exact; 41 stands for every one above it.
 pub fn waits() {
     wait(0, 5, 0);
     wait(0, 5, 1);
     wait(0, 5, 30);
     wait(0, 5, 31);
+    wait(0, 5, 35);
+    wait(0, 5, 36);
+    wait(0, 5, 40);
+    wait(0, 5, 41);
     wait(0, 5, 1_000_000);
     wait(0, 5, 4_294_967_295);
     wait(30, 31, 0);
     wait(30, 31, 1);
     wait(31, 0, 1);
+    wait(40, 41, 0);
+    wait(40, 41, 1);
+    wait(41, 0, 1);
     ticks(0);
-    ticks(30);
     ticks(31);
-    ticks(32);
+    ticks(40);
+    ticks(41);
+    ticks(42);
 }
 
 fn reset(set: u8) {
@@ -85,7 +93,7 @@ fn within(low: u8, high: u8, x: u8) {
     print::truth(clocks::within(low, high, x));
 }
 
-// Readings around both ends of the bounds, and 0, 30, 31 and 255.
+// Readings around both ends of the bounds, 0, the largest bound, the one after it, and 255.
 fn ends(low: u8, high: u8) {
     if 0 < low {
         within(low, high, low - 1);
@@ -96,23 +104,23 @@ fn ends(low: u8, high: u8) {
         within(low, high, high + 1);
     }
     within(low, high, 0);
-    within(low, high, 30);
-    within(low, high, 31);
+    within(low, high, Monitor::BOUND);
+    within(low, high, Monitor::TOP);
     within(low, high, 255);
 }
 
 // Both ends are included; 255 is no upper bound. Three of each case; the last of each is of bounds that no load accepts.
 pub fn bounds() {
     ends(0, 255);
-    ends(30, 255);
+    ends(Monitor::BOUND, 255);
     ends(255, 255);
     ends(0, 0);
-    ends(30, 30);
+    ends(Monitor::BOUND, Monitor::BOUND);
     ends(254, 254);
     ends(0, 10);
-    ends(0, 30);
+    ends(0, Monitor::BOUND);
     ends(0, 254);
     ends(5, 10);
-    ends(1, 30);
+    ends(1, Monitor::BOUND);
     ends(10, 5);
 }

@@ -2,6 +2,7 @@
 use crate::print;
 use retimer::comparison;
 use retimer::comparison::Comparison;
+use retimer::limits::Monitor;
 
 // The case that bounds fall in.
 fn case(low: u8, high: u8) {
@@ -21,21 +22,21 @@ fn case(low: u8, high: u8) {
 pub fn cases() {
     case(0, 255);
     case(5, 255);
-    case(30, 255);
+    case(Monitor::BOUND, 255);
     case(0, 0);
     case(5, 5);
-    case(30, 30);
+    case(Monitor::BOUND, Monitor::BOUND);
     case(0, 1);
-    case(0, 30);
+    case(0, Monitor::BOUND);
     case(1, 2);
     case(5, 10);
-    case(1, 30);
+    case(1, Monitor::BOUND);
     case(255, 255);
     case(254, 254);
     case(0, 254);
     case(254, 0);
     case(10, 5);
-    case(31, 254);
+    case(Monitor::TOP, 254);
 }
 
 fn at_least(low: u8, x: u8) {
@@ -83,17 +84,17 @@ pub fn ends() {
     between(5, 7, 8);
 }
 
-// The readings 0, 30, 31 and 255.
+// Of the largest bound, the readings 0, that bound, the one after it, and 255.
 fn each(x: u8) {
-    at_least(30, x);
-    exactly(30, x);
-    at_most(30, x);
-    between(1, 30, x);
+    at_least(Monitor::BOUND, x);
+    exactly(Monitor::BOUND, x);
+    at_most(Monitor::BOUND, x);
+    between(1, Monitor::BOUND, x);
 }
 
 pub fn readings() {
     each(0);
-    each(30);
-    each(31);
+    each(Monitor::BOUND);
+    each(Monitor::TOP);
     each(255);
 }

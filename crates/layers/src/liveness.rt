@@ -1,6 +1,7 @@
 // From which configurations an accepting location can still be reached.
 use crate::guarded;
 use crate::print;
+use retimer::limits::Monitor;
 use retimer::liveness;
 
 fn live(s: &[u8], l: u8, x: u8, y: u8) {
@@ -16,21 +17,21 @@ fn live(s: &[u8], l: u8, x: u8, y: u8) {
 
 pub fn one_clock() {
     let b = course::sheet_b();
-    live(&b, 0, 31, 31);
-    live(&b, 1, 0, 31);
-    live(&b, 1, 15, 31);
-    live(&b, 1, 16, 31);
-    live(&b, 2, 31, 31);
+    live(&b, 0, Monitor::TOP, Monitor::TOP);
+    live(&b, 1, 0, Monitor::TOP);
+    live(&b, 1, 15, Monitor::TOP);
+    live(&b, 1, 16, Monitor::TOP);
+    live(&b, 2, Monitor::TOP, Monitor::TOP);
     let c = course::sheet_c();
-    live(&c, 0, 8, 31);
-    live(&c, 0, 9, 31);
-    live(&c, 1, 20, 31);
-    live(&c, 1, 21, 31);
-    live(&c, 2, 31, 31);
+    live(&c, 0, 8, Monitor::TOP);
+    live(&c, 0, 9, Monitor::TOP);
+    live(&c, 1, 20, Monitor::TOP);
+    live(&c, 1, 21, Monitor::TOP);
+    live(&c, 2, Monitor::TOP, Monitor::TOP);
     let d = course::sheet_d();
-    live(&d, 1, 31, 31);
+    live(&d, 1, Monitor::TOP, Monitor::TOP);
     let e = course::sheet_e();
-    live(&e, 0, 31, 31);
+    live(&e, 0, Monitor::TOP, Monitor::TOP);
 }
 
 pub fn two_clocks() {

@@ -1,6 +1,7 @@
 // The rule that applies.
 use crate::guarded;
 use crate::print;
+use retimer::limits::Monitor;
 use retimer::lookup;
 
 // Where a command leads.
@@ -24,21 +25,21 @@ fn step(s: &[u8], c: u8, l: u8, x: u8, y: u8) {
 
 pub fn one_clock() {
     let a = course::sheet_a();
-    step(&a, 0, 0, 0, 31);
-    step(&a, 1, 0, 7, 31);
-    step(&a, 0, 1, 4, 31);
-    step(&a, 1, 1, 4, 31);
-    step(&a, 1, 1, 5, 31);
-    step(&a, 1, 1, 31, 31);
+    step(&a, 0, 0, 0, Monitor::TOP);
+    step(&a, 1, 0, 7, Monitor::TOP);
+    step(&a, 0, 1, 4, Monitor::TOP);
+    step(&a, 1, 1, 4, Monitor::TOP);
+    step(&a, 1, 1, 5, Monitor::TOP);
+    step(&a, 1, 1, Monitor::TOP, Monitor::TOP);
     let b = course::sheet_b();
-    step(&b, 0, 0, 3, 31);
-    step(&b, 1, 0, 3, 31);
-    step(&b, 1, 1, 9, 31);
-    step(&b, 1, 1, 10, 31);
-    step(&b, 1, 1, 15, 31);
-    step(&b, 1, 1, 16, 31);
-    step(&b, 0, 2, 0, 31);
-    step(&b, 2, 0, 0, 31);
+    step(&b, 0, 0, 3, Monitor::TOP);
+    step(&b, 1, 0, 3, Monitor::TOP);
+    step(&b, 1, 1, 9, Monitor::TOP);
+    step(&b, 1, 1, 10, Monitor::TOP);
+    step(&b, 1, 1, 15, Monitor::TOP);
+    step(&b, 1, 1, 16, Monitor::TOP);
+    step(&b, 0, 2, 0, Monitor::TOP);
+    step(&b, 2, 0, 0, Monitor::TOP);
 }
 
 pub fn two_clocks() {

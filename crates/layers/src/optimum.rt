@@ -76,24 +76,31 @@ fn plan<'a>(s: &'a [u8], cs: &'a [u8], l: u8, x: u8, y: u8, t: u32) {
 pub fn one_clock() {
     print::word(b"plan\n");
     let a = course::sheet_a();
-    plan(&a, b"\x01", 1, 1, 31, 5);
+    plan(&a, b"\x01", 1, 1, Monitor::TOP, 5);
     let b = course::sheet_b();
-    plan(&b, b"\x00\x01", 0, 5, 31, 5);
-    plan(&b, b"\x00", 0, 3, 31, 3);
-    plan(&b, b"\x01", 0, 0, 31, 0);
+    plan(&b, b"\x00\x01", 0, 5, Monitor::TOP, 5);
+    plan(&b, b"\x00", 0, 3, Monitor::TOP, 3);
+    plan(&b, b"\x01", 0, 0, Monitor::TOP, 0);
     let c = course::sheet_c();
-    plan(&c, b"\x00\x01", 0, 8, 31, 8);
-    plan(&c, b"\x00\x01", 0, 9, 31, 9);
+    plan(&c, b"\x00\x01", 0, 8, Monitor::TOP, 8);
+    plan(&c, b"\x00\x01", 0, 9, Monitor::TOP, 9);
     let d = course::sheet_d();
-    plan(&d, b"\x00\x01", 0, 3, 31, 3);
-    plan(&d, b"\x00\x01", 0, 31, 31, 1_000_000_000);
+    plan(&d, b"\x00\x01", 0, 3, Monitor::TOP, 3);
+    plan(
+        &d,
+        b"\x00\x01",
+        0,
+        Monitor::TOP,
+        Monitor::TOP,
+        1_000_000_000,
+    );
     let e = course::sheet_e();
     plan(
         &e,
         b"\x00\x00\x00\x00\x00\x00\x00\x00\x00\x00\x00\x00\x00\x00\x00\x00\x01",
         0,
         0,
-        31,
+        Monitor::TOP,
         0,
     );
 }

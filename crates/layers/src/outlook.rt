@@ -1,6 +1,7 @@
 // What a list of commands comes to.
 use crate::guarded;
 use crate::print;
+use retimer::limits::Monitor;
 use retimer::liveness;
 use retimer::outlook::Outlook;
 use retimer::reach;
@@ -32,27 +33,27 @@ fn comes_to<'a>(s: &'a [u8], cs: &'a [u8], l: u8, x: u8, y: u8) {
 // After one command.
 pub fn single() {
     let b = course::sheet_b();
-    comes_to(&b, b"\x00", 0, 31, 31);
-    comes_to(&b, b"\x01", 0, 0, 31);
-    comes_to(&b, b"\x01", 1, 0, 31);
-    comes_to(&b, b"\x01", 1, 16, 31);
+    comes_to(&b, b"\x00", 0, Monitor::TOP, Monitor::TOP);
+    comes_to(&b, b"\x01", 0, 0, Monitor::TOP);
+    comes_to(&b, b"\x01", 1, 0, Monitor::TOP);
+    comes_to(&b, b"\x01", 1, 16, Monitor::TOP);
 }
 
 pub fn lists() {
     let b = course::sheet_b();
-    comes_to(&b, b"\x00\x01", 0, 5, 31);
-    comes_to(&b, b"\x00\x00", 0, 5, 31);
-    comes_to(&b, b"\x00\x00\x01", 0, 5, 31);
+    comes_to(&b, b"\x00\x01", 0, 5, Monitor::TOP);
+    comes_to(&b, b"\x00\x00", 0, 5, Monitor::TOP);
+    comes_to(&b, b"\x00\x00\x01", 0, 5, Monitor::TOP);
     let c = course::sheet_c();
-    comes_to(&c, b"\x00\x01", 0, 8, 31);
-    comes_to(&c, b"\x00\x01", 0, 9, 31);
+    comes_to(&c, b"\x00\x01", 0, 8, Monitor::TOP);
+    comes_to(&c, b"\x00\x01", 0, 9, Monitor::TOP);
     let e = course::sheet_e();
     comes_to(
         &e,
         b"\x00\x00\x00\x00\x00\x00\x00\x00\x00\x00\x00\x00\x00\x00\x00\x00\x01",
         0,
         0,
-        31,
+        Monitor::TOP,
     );
 }
 

@@ -11,7 +11,7 @@ use lib.Count.{ones}
 use Rattle.enforcement.specs.Limits.{maxTransitions}
 use Rattle.enforcement.specs.Automaton.{Bytes, word, locations, clocks, actions, initial, accepting, transitions, allTransitions}
 use Rattle.enforcement.specs.Reason.{I-1, I-2, I-3, I-4, I-5, I-6, I-7, I-8, S-1, S-2, S-3, S-4, S-5}
-use Rattle.enforcement.specs.Loading.{HeaderFits, BitBeyond, AllFit, OverlapIn, Holds, WellFormed, countsOf, accepted, Bounded, Deterministic}
+use Rattle.enforcement.specs.Loading.{HeaderFits, BitBeyond, AllFit, OverlapIn, HoldsUpTo, WellFormed, countsOf, accepted, Bounded, Deterministic}
 use Rattle.enforcement.proofs.Bits.{bit-large, countBelow}
 use Rattle.enforcement.proofs.Loading.{header, initial-fits, bounded, deterministic, loads-is, loads-check, accepting-counted}
 use Rattle.retimer.proofs.CostLaws.{le-or-lt}
@@ -88,7 +88,7 @@ module _ {s u : Bytes} (j : Joinable s u) where
       ]
 
   formed-joined : WellFormed (joined s u)
-  unfolding Holds
+  unfolding HoldsUpTo
   formed-joined I-1 = elim [ inl h ↦ omega (arith, reads .length-is) | inr h ↦ omega (arith, reads .length-is, pairs, j .locations-fit, j .transitions-fit) ]
   formed-joined I-2 = λ h. h header-joined
   formed-joined I-3 = elim [ inl h ↦ omega (arith, initial-joined) | inr h ↦ none-beyond h ]
@@ -122,7 +122,7 @@ module _ {s u : Bytes} (j : Joinable s u) where
 
 -- Of two sheets that load and have the same actions, those that can't be joined are just those whose joined sheet would not load.
 pub joinable-is : {s u : Bytes} → WellFormed s → WellFormed u → actions s ≡ actions u → Joinable s u ↔ WellFormed (joined s u)
-unfolding Holds
+unfolding HoldsUpTo
 joinable-is {s} {u} f g e = (
   λ j. formed-joined j,
   λ h. let k = header (joined s u) h in

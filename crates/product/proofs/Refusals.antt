@@ -276,7 +276,7 @@ joins-is m s u = (
 
 -- A sheet's own reasons are I-1 to I-6.
 own-number : (r : Reason) (s : Bytes) → loading.Holds r s 0 → reason.number r ≤ 6
-unfolding loading.Holds
+unfolding loading.HoldsUpTo
 own-number I-1 s h = omega arith
 own-number I-2 s h = omega arith
 own-number I-3 s h = omega arith

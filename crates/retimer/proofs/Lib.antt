@@ -38,3 +38,4 @@ pub mod Replays
 pub mod Demand3
 pub mod BoxNumbers
 pub mod Shifts
+pub mod Widening

@@ -15,7 +15,7 @@ use borrow.Author.Tests.{eq-eqb, ne-eqb, le-leb, lt-leb, not-true, not-false}
 use Rattle.enforcement.specs.Limits.{maxCount, maxBound, maxTransitions, maxSize}
 use Rattle.enforcement.specs.Automaton.{Bytes, word, locations, clocks, actions, offset, size, Transition, transitionAt, transitionsFrom, transitions, transitionsOver, allTransitions}
 use Rattle.enforcement.specs.Reason.{Reason}
-use Rattle.enforcement.specs.Loading.{Layout, endBefore, refused, sizePasses, headerPasses, layoutPasses, pairsPass, boundsPass, fits, allFit, overlap, overlapsNone, disjoint, disjointOver, unless, countsOf}
+use Rattle.enforcement.specs.Loading.{Layout, endBefore, refused, sizePasses, headerPasses, layoutPasses, pairsPass, boundsPass, fits, allFitUpTo, allFit, overlap, overlapsNone, disjoint, disjointOver, unless, countsOf}
 use Rattle.enforcement.specs.Loading as loading
 use Rattle.enforcement.proofs.Tests.{Tests, leb-tests, both-tests}
 use Rattle.enforcement.proofs.Pairs.{layout-tests, transitions-known, transitions-length}
@@ -148,7 +148,7 @@ pub record Each (f : List Transition → Bool) (g : Transition → List Transiti
   pub more : (t : Transition) (ts : List Transition) → f (t ∷ ts) ≡ g t ts && f ts
 
 pub fit-each : (s : Bytes) → Each (allFit s) (λ t ts. fits s t)
-unfolding allFit
+unfolding allFitUpTo
 fit-each s = record { none = refl; more = λ t ts. refl }
 
 pub overlap-each : (t : Transition) → Each (overlapsNone t) (λ u us. not (overlap t u))

@@ -3,16 +3,21 @@ use mathlib.Core.Path.{_≡_}
 use mathlib.Core.Bool.{true, false, cond}
 use mathlib.Core.List.{List, [], _∷_, map}
 use mathlib.Core.Logic.{_↔_}
+use mathlib.Core.Option.{Option, some}
 use Prim.Native.Nat.{ℕ}
 use Rattle.enforcement.specs.Automaton.{Bytes, automaton}
+use Rattle.enforcement.specs.Loading.{Checked}
 use Rattle.enforcement.specs.History.{History, fresh, Call, offer, lamp, Outcome, HistoryOf, Schedulable}
 use Rattle.enforcement.specs.History as reference
 use Rattle.enforcement.specs.Demands.{StandsFor, Admitted}
 use Rattle.enforcement.specs.Shift.{shiftOutcome, shiftMonitor}
+use Rattle.enforcement.specs.Widening.{scopeBound, ToldUpTo}
 use Rattle.retimer.specs.declared.limits.Monitor.{Monitor}
 use Rattle.retimer.specs.declared.state.Answer.{Answer}
 use Rattle.retimer.specs.declared.state.Answer.the-variants.{Dropped, Lit, Dark}
 use Rattle.retimer.specs.declared.monitor.Answered.{Answered}
+use Rattle.retimer.specs.declared.monitor.Loaded.{Loaded}
+use Rattle.retimer.specs.Checked.{checkedOf}
 use Rattle.retimer.specs.View.{bytesOf, viewOf, Valid}
 use Rattle.retimer.specs.Calls.{outcomeOf, CallRight}
 
@@ -47,3 +52,10 @@ pub record CodeDemand3 (s : Bytes) (d : ℕ) (ks : List Call) (xs : List Answer)
 pub record BoxesAlike (d : ℕ) (xs ys : List Answer) (b c : Monitor) : Type 0 where
   pub outcomes-are : outcomesOf ys ≡ map (shiftOutcome d) (outcomesOf xs)
   pub box-is : viewOf c ≡ shiftMonitor d (viewOf b)
+
+-- Of a load of the sheet s at d, which gave r, and the calls ks on its box, which answered xs and left the box b: the load's answer and the outcomes are what is told with document 01's largest bound, where nothing else is told, and the box stands for the history that is told. Its readings are saturated above the largest bound of now.
+pub record BoxAsBefore (s : Bytes) (d : ℕ) (r : Loaded) (ks : List Call) (xs : List Answer) (b : Monitor) : Type 0 where
+  pub history : History
+  pub told : ToldUpTo scopeBound s d ks (checkedOf (r .checked)) (outcomesOf xs) (some history)
+  pub only : (k : Checked) (os : List Outcome) (h : Option History) → ToldUpTo scopeBound s d ks k os h → (k ≡ checkedOf (r .checked)) × (os ≡ outcomesOf xs) × (h ≡ some history)
+  pub stands : StandsFor (automaton s d) (viewOf b) history

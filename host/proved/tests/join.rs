@@ -299,8 +299,8 @@ fn refused_sheets_are_named() {
 
 #[test]
 fn mistakes_name_file_and_line() {
-    let mistake = tiny(5).replace("to 5", "to 31");
-    let message = "FIRST, line 6: bound 31 is out of range; 0 to 30 is expected; for no upper bound, leave `to` out";
+    let mistake = tiny(5).replace("to 5", "to 41");
+    let message = "FIRST, line 6: bound 41 is out of range; 0 to 40 is expected; for no upper bound, leave `to` out";
     require_message("mistake-first", [&mistake, &tiny(5)], message);
     let message = "SECOND, line 7: this rule overlaps that of line 6; in location 0 command 0 finds both when clock 1 reads 2";
     let overlap = tiny(5) + "rule 0 -> 0 on 0 when clock 1 from 2\n";

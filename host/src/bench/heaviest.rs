@@ -5,7 +5,7 @@
 use super::script::Script;
 use super::Input;
 use crate::generate::Draft;
-use crate::limits::MAX_PENDING;
+use crate::limits::{MAX_BOUND, MAX_PENDING};
 use crate::random::Random;
 use crate::sheet::{RULE, UNBOUNDED};
 
@@ -20,6 +20,25 @@ pub const UNKNOWN: u8 = 15;
 const GOAL: u8 = 15;
 /// No bounds at all.
 const ANY: [u8; 2] = [0, UNBOUNDED];
+/// Readings below the last two bounds, at each of them, and from the last on.
+const EARLY: [u8; 2] = [0, MAX_BOUND - 2];
+const NEXT_TO_LAST: [u8; 2] = [MAX_BOUND - 1, MAX_BOUND - 1];
+const LAST: [u8; 2] = [MAX_BOUND, MAX_BOUND];
+const FROM_LAST: [u8; 2] = [MAX_BOUND, UNBOUNDED];
+/// All readings below the last bound.
+const BELOW_LAST: [u8; 2] = [0, MAX_BOUND - 1];
+/// The readings up to the middle of the bounds, and the others.
+const LOW: [u8; 2] = [0, MAX_BOUND / 2];
+const HIGH: [u8; 2] = [MAX_BOUND / 2 + 1, UNBOUNDED];
+/// The same in three parts.
+const THIRDS: [[u8; 2]; 3] = {
+    let third = MAX_BOUND / 3;
+    [
+        [0, third - 1],
+        [third, 2 * third - 1],
+        [2 * third, UNBOUNDED],
+    ]
+};
 
 /// Resets of a transition.
 const NONE: u8 = 0;
@@ -48,11 +67,11 @@ fn draft(outgoing: Vec<Vec<[u8; RULE]>>) -> Draft {
 /// is entered from one location and at one pair of readings.
 pub fn many_states() -> Vec<u8> {
     let mut outgoing: Vec<_> = (0..GOAL).map(spreading).collect();
-    outgoing[14].push(rule(EXIT, GOAL, NONE, [30, 30], [0, 0]));
+    outgoing[14].push(rule(EXIT, GOAL, NONE, LAST, [0, 0]));
     outgoing.push(vec![
-        rule(HELD, 1, FIRST, ANY, [0, 9]),
-        rule(HELD, 6, FIRST, ANY, [10, 19]),
-        rule(HELD, 11, FIRST, ANY, [20, UNBOUNDED]),
+        rule(HELD, 1, FIRST, ANY, THIRDS[0]),
+        rule(HELD, 6, FIRST, ANY, THIRDS[1]),
+        rule(HELD, 11, FIRST, ANY, THIRDS[2]),
     ]);
     draft(outgoing).bytes()
 }
@@ -62,30 +81,25 @@ pub fn many_states() -> Vec<u8> {
 /// one of each sort, so that all pairs of readings follow by waiting.
 fn spreading(location: u8) -> Vec<[u8; RULE]> {
     let target = |sort: u8| (4 * location + sort) % GOAL;
-    let (low, high) = ([0, 15], [16, UNBOUNDED]);
     vec![
-        rule(HELD, target(0), FIRST, high, low),
-        rule(HELD, target(1), FIRST, low, high),
-        rule(HELD, target(2), SECOND, high, high),
-        rule(HELD, target(3), SECOND, low, low),
+        rule(HELD, target(0), FIRST, HIGH, LOW),
+        rule(HELD, target(1), FIRST, LOW, HIGH),
+        rule(HELD, target(2), SECOND, HIGH, HIGH),
+        rule(HELD, target(3), SECOND, LOW, LOW),
     ]
 }
 
 /// A sheet with a late correction: the way to the goal leads through all
-/// locations, each step waits for a reading of 29, and nothing else leads
-/// forward.
+/// locations, each step waits for a reading one below the largest bound, and
+/// nothing else leads forward.
 pub fn late_correction() -> Vec<u8> {
     let mut outgoing: Vec<_> = (0..GOAL).map(climbing).collect();
-    outgoing[14].push(rule(EXIT, GOAL, NONE, ANY, [29, 29]));
-    outgoing.push(vec![
-        rule(HELD, 0, BOTH, [0, 9], ANY),
-        rule(HELD, 0, BOTH, [10, 19], ANY),
-        rule(HELD, 0, BOTH, [20, UNBOUNDED], ANY),
-    ]);
+    outgoing[14].push(rule(EXIT, GOAL, NONE, ANY, NEXT_TO_LAST));
+    outgoing.push(THIRDS.map(|third| rule(HELD, 0, BOTH, third, ANY)).to_vec());
     draft(outgoing).bytes()
 }
 
-/// One transition forward at reading 29 of one clock, three others for the
+/// One transition forward at that reading of one clock, three others for the
 /// rest. The clocks change places from location to location.
 fn climbing(location: u8) -> Vec<[u8; RULE]> {
     let next = (location + 1).min(GOAL - 1);
@@ -93,10 +107,10 @@ fn climbing(location: u8) -> Vec<[u8; RULE]> {
     let cut = 1 + location % 5;
     // Target, resets, and the bounds of the other clock and of the one asked for.
     let sorts = [
-        (location, FIRST, [cut + 1, UNBOUNDED], [0, 28]),
-        (back, SECOND, [0, cut], [0, 28]),
-        (location, SECOND, ANY, [30, UNBOUNDED]),
-        (next, FIRST, ANY, [29, 29]),
+        (location, FIRST, [cut + 1, UNBOUNDED], EARLY),
+        (back, SECOND, [0, cut], EARLY),
+        (location, SECOND, ANY, FROM_LAST),
+        (next, FIRST, ANY, NEXT_TO_LAST),
     ];
     let turned = |(target, resets, other, asked): (u8, u8, [u8; 2], [u8; 2])| {
         if location.is_multiple_of(2) {
@@ -117,7 +131,7 @@ const WORST_SEED: u64 = 5811;
 
 /// The sheet of the worst plan found. All that the dead locations cost is
 /// worked out, and as there is no way out of them, nothing cuts that short. The
-/// goal is reached past them, after a wait of 30 ticks.
+/// goal is reached past them, after a wait up to the largest bound.
 pub fn dead_locations() -> Vec<u8> {
     let mut random = Random::new(WORST_SEED);
     let targets = [(); 6].map(|()| permutation(&mut random));
@@ -129,8 +143,8 @@ pub fn dead_locations() -> Vec<u8> {
         rule(EXIT, GOAL, NONE, ANY, ANY),
     ]);
     outgoing.push(vec![
-        rule(HELD, 0, FIRST, [0, 29], ANY),
-        rule(HELD, LIVE, NONE, [30, UNBOUNDED], ANY),
+        rule(HELD, 0, FIRST, BELOW_LAST, ANY),
+        rule(HELD, LIVE, NONE, FROM_LAST, ANY),
     ]);
     draft(outgoing).bytes()
 }
@@ -152,8 +166,8 @@ fn among_dead(to: [u8; 6]) -> Vec<[u8; RULE]> {
         rule(HELD, to[1], NONE, [1, 1], ANY),
         rule(HELD, to[2], NONE, later, [0, 0]),
         rule(HELD, to[3], NONE, later, [1, 1]),
-        rule(HELD, to[4], FIRST, later, [2, 29]),
-        rule(HELD, to[5], SECOND, later, [30, UNBOUNDED]),
+        rule(HELD, to[4], FIRST, later, [2, MAX_BOUND - 1]),
+        rule(HELD, to[5], SECOND, later, FROM_LAST),
     ]
 }
 
@@ -164,8 +178,8 @@ fn among_dead(to: [u8; 6]) -> Vec<[u8; RULE]> {
 pub fn dead_beside() -> Vec<u8> {
     let mut outgoing: Vec<_> = (0..LIVE).map(spread_late).collect();
     outgoing.push(vec![
-        rule(HELD, 0, NONE, [0, 29], ANY),
-        rule(HELD, LIVE, BOTH, [30, UNBOUNDED], ANY),
+        rule(HELD, 0, NONE, BELOW_LAST, ANY),
+        rule(HELD, LIVE, BOTH, FROM_LAST, ANY),
         rule(EXIT, GOAL, NONE, ANY, ANY),
     ]);
     outgoing.push(vec![rule(HELD, LIVE, BOTH, ANY, ANY)]);
@@ -177,9 +191,9 @@ pub fn dead_beside() -> Vec<u8> {
 fn spread_late(location: u8) -> Vec<[u8; RULE]> {
     let next = (location + 1) % LIVE;
     vec![
-        rule(HELD, next, FIRST, ANY, [0, 28]),
-        rule(HELD, next, NONE, ANY, [29, 29]),
-        rule(HELD, (location + 4) % LIVE, NONE, ANY, [30, UNBOUNDED]),
+        rule(HELD, next, FIRST, ANY, EARLY),
+        rule(HELD, next, NONE, ANY, NEXT_TO_LAST),
+        rule(HELD, (location + 4) % LIVE, NONE, ANY, FROM_LAST),
     ]
 }
 

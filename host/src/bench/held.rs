@@ -4,7 +4,7 @@ use super::script::Script;
 use super::Input;
 use crate::decide::Decision;
 use crate::generate::{draw, Bounds, Draft, Goal, Profile};
-use crate::limits::MAX_PENDING;
+use crate::limits::{MAX_BOUND, MAX_PENDING};
 use crate::monitor::Answer;
 use crate::random::Random;
 use crate::refusal::Refusal;
@@ -60,7 +60,7 @@ pub fn fresh_date(script: &Script) -> u32 {
 /// A random automaton that starts in the last location. This is the only
 /// accepting one, and only the last action leads to it.
 pub fn one_exit(random: &mut Random, clocks: u8) -> Draft {
-    let (low, high) = random.pick(&[(1, 5), (1, 14), (0, 30)]);
+    let (low, high) = random.pick(&[(1, 5), (1, 14), (0, MAX_BOUND)]);
     let profile = Profile {
         locations: (4, 8),
         clocks,

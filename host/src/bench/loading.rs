@@ -10,6 +10,7 @@ use super::script::with_length;
 use super::Input;
 use crate::desk::COLLECTION;
 use crate::generate::{draw, Bounds, Draft, Goal, Profile};
+use crate::limits::MAX_BOUND;
 use crate::random::Random;
 use crate::sheet::{RULE, UNBOUNDED};
 
@@ -65,7 +66,10 @@ fn random_sheet(seed: u64) -> Vec<u8> {
         locations: (16, 16),
         clocks: 2,
         actions: (16, 16),
-        bounds: Bounds { low: 0, high: 30 },
+        bounds: Bounds {
+            low: 0,
+            high: MAX_BOUND,
+        },
         splits: 2,
         density: 100,
         forward: 50,
@@ -77,8 +81,8 @@ fn random_sheet(seed: u64) -> Vec<u8> {
 }
 
 /// A sheet whose accepting location is hundreds of actions away: in each of
-/// the other locations the difference of the readings must first rise to 30,
-/// by one with each action.
+/// the other locations the difference of the readings must first rise to the
+/// largest bound, by one with each action.
 pub fn long_way() -> Vec<u8> {
     let mut outgoing = vec![Vec::new(); 16];
     for step in 0..15 {
@@ -113,8 +117,8 @@ fn counting(step: u8) -> Vec<[u8; RULE]> {
     vec![
         start_again(3),
         [2, before, 3, 0, UNBOUNDED, 0, UNBOUNDED],
-        [1, station(step + 1), 3, 0, 0, 30, 30],
-        [0, here, 1, 1, 1, 0, 30],
+        [1, station(step + 1), 3, 0, 0, MAX_BOUND, MAX_BOUND],
+        [0, here, 1, 1, 1, 0, MAX_BOUND],
     ]
 }
 

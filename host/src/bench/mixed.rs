@@ -3,6 +3,7 @@
 use super::script::Script;
 use super::Input;
 use crate::generate::{draw, Bounds, Goal, Profile};
+use crate::limits::MAX_BOUND;
 use crate::monitor::Answer;
 use crate::random::Random;
 
@@ -79,7 +80,7 @@ fn lively(script: &Script, counts: &Counts, calls: usize) -> bool {
 }
 
 fn profile(random: &mut Random, clocks: u8) -> Profile {
-    let bounds = [(1, 5), (1, 14), (25, 30), (0, 30)];
+    let bounds = [(1, 5), (1, 14), (MAX_BOUND - 5, MAX_BOUND), (0, MAX_BOUND)];
     let (low, high) = random.pick(&bounds);
     Profile {
         locations: (2, random.pick(&[4, 8, 16])),
@@ -126,7 +127,7 @@ fn ticks(random: &mut Random) -> u32 {
     if random.chance(50) {
         0
     } else if random.chance(10) {
-        random.between(6, 40)
+        random.between(6, u32::from(MAX_BOUND) + 10)
     } else {
         random.between(1, 5)
     }

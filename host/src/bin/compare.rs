@@ -1,17 +1,20 @@
 //! Compares a desk program with the reference over random inputs, and over some
 //! that use up the numbers; or one that reads a loading date, over random inputs.
 
+use host::bounds;
 use host::compare::{compare, Stop, Summary};
 use host::generate::{kind_named, Kind, KINDS, ONCE};
-use host::loading::{missing, Loading};
+use host::loading::{self, Loading};
 use host::seeds::Seeds;
+use host::tally::Tally;
 use std::ffi::OsString;
 use std::path::Path;
 use std::process::ExitCode;
 
 const USAGE: &str = "usage: compare [--at] PROGRAM SEEDS [FIRST_SEED [KIND]..]";
 
-/// Seeds of every kind among which nothing that loading dates show may be missing.
+/// Seeds of every kind among which nothing that bounds and loading dates show may
+/// be missing.
 const ENOUGH: u64 = 100;
 
 /// What to compare.
@@ -65,14 +68,23 @@ fn parse(arguments: &[OsString]) -> Option<Task<'_>> {
     })
 }
 
-/// Prints the summary. Enough inputs with a loading date show all that they can.
+/// What inputs must show and these do not.
+fn missing(loading: Loading, tally: &Tally) -> Vec<String> {
+    let mut missing = bounds::missing(tally);
+    if loading == Loading::AtDate {
+        missing.extend(loading::missing(tally).into_iter().map(String::from));
+    }
+    missing
+}
+
+/// Prints the summary. Enough inputs show all that they can.
 fn tell(task: &Task, summary: &Summary) -> ExitCode {
     print!("{summary}");
     let seeds = &task.seeds;
     let named = |kind: &Kind| seeds.kinds.iter().any(|named| named.name == kind.name);
     let enough = seeds.count >= ENOUGH && KINDS.iter().all(named);
-    let missing = missing(&summary.random.tally);
-    if task.loading == Loading::AtZero || !enough || missing.is_empty() {
+    let missing = missing(task.loading, &summary.random.tally);
+    if !enough || missing.is_empty() {
         return ExitCode::SUCCESS;
     }
     let missing = missing.join("; ");

@@ -10,7 +10,7 @@ pub const CAP: u8 = MAX_BOUND + 1;
 pub const READINGS: usize = CAP as usize + 1;
 
 /// A bit for each reading of clock 1.
-pub type Row = u32;
+pub type Row = u64;
 /// The row of all readings.
 pub const FULL: Row = Row::MAX >> (Row::BITS - READINGS as u32);
 /// The row of the capped reading alone.

@@ -2,7 +2,8 @@
 
 use super::calls::Script;
 use super::draft::{draw, Draft, Goal, Profile};
-use super::kinds::{not_dropped, plan, profile, push_tail, scripted, MIDDLE, SMALL, STEADY};
+use super::kinds::{not_dropped, plan, profile, push_tail, scripted};
+use super::kinds::{ALL, MIDDLE, SMALL, STEADY};
 use crate::random::Random;
 use crate::sheet::{RULE, UNBOUNDED};
 
@@ -58,7 +59,7 @@ fn way_home(random: &mut Random) -> Draft {
     let profile = Profile {
         locations: (2, 8),
         actions: (2, 4),
-        bounds: random.pick(&[SMALL, MIDDLE]),
+        bounds: random.pick(&[SMALL, MIDDLE, ALL]),
         splits: 1,
         gaps: random.between(0, 20),
         goal: random.pick(&[Goal::Last, Goal::Percent(0), Goal::Percent(30)]),

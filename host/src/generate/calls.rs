@@ -1,6 +1,8 @@
 //! Random calls for an automaton. A monitor runs along, so that actions can
 //! be chosen by the answer they would get.
 
+use super::draft::EARLIER_MOST;
+use super::kinds::CAPPED;
 use super::with_length;
 use crate::desk::COLLECTION;
 use crate::limits::LAST_DATE;
@@ -17,7 +19,7 @@ pub struct Pace {
     pub jumps: u32,
     /// Most ticks of a step that is no jump.
     pub step: u32,
-    /// Most ticks of a jump.
+    /// Most ticks of a jump that aims at no reading.
     pub jump: u32,
 }
 
@@ -86,7 +88,9 @@ pub fn push_call(input: &mut Vec<u8>, first: u8, date: u32) {
 pub fn push_random_calls(random: &mut Random, input: &mut Vec<u8>, count: u32) {
     let mut date = 0;
     for _ in 0..count {
-        date += random.between(0, 4);
+        // At times so many ticks that readings come to the largest bounds.
+        let most = random.pick(&[4, 4, 4, CAPPED + 5]);
+        date += random.between(0, most);
         let first = if random.chance(30) {
             COLLECTION
         } else {
@@ -184,11 +188,23 @@ impl Script {
         let ticks = if random.chance(pace.still) {
             0
         } else if random.chance(pace.jumps) {
-            random.between(1, pace.jump)
+            let any = random.between(1, pace.jump);
+            let aimed = self.to_large_reading(random).unwrap_or(any);
+            random.pick(&[any, aimed])
         } else {
             random.between(1, pace.step)
         };
         (self.monitor.date() + ticks).min(LAST_DATE)
+    }
+
+    /// Ticks after which the clock that was reset last reads about as much as a
+    /// large bound, or just more than all; `None` if that has passed.
+    fn to_large_reading(&self, random: &mut Random) -> Option<u32> {
+        let reached = self.monitor.reached();
+        let wanted = random.between(EARLIER_MOST.into(), CAPPED + 1);
+        let least = reached.configuration.valuation.into_iter().min()?;
+        let date = reached.date + wanted.checked_sub(least)?;
+        date.checked_sub(self.monitor.date())
     }
 
     /// An action for an offer; if steered, the first of some that would get a

@@ -1,6 +1,7 @@
 //! Damage to good sheets, so that each reason against a sheet occurs.
 
-use super::draft::Draft;
+use super::draft::{Draft, EARLIER_MOST};
+use crate::limits::MAX_BOUND;
 use crate::random::Random;
 use crate::sheet::{HEADER, LONGEST, PAIR, RULE, UNBOUNDED};
 
@@ -41,6 +42,8 @@ const EDGES: &[Damage] = &[
     moved_tables,
     wrong_field,
     wrong_field,
+    edge_bound,
+    edge_bound,
     edge_bound,
     edge_bound,
     edge_bound,
@@ -93,9 +96,9 @@ fn overlap(random: &mut Random, draft: &mut Draft) {
     copy[1] = random.byte(0, last);
     // The copy may start where the first ends, or one tick later.
     let low = 3 + 2 * random.below(draft.clocks.into());
-    if copy[low + 1] < 30 && random.chance(60) {
+    if copy[low + 1] < MAX_BOUND && random.chance(60) {
         copy[low] = copy[low + 1] + random.byte(0, 1);
-        copy[low + 1] = random.pick(&[copy[low], 30, UNBOUNDED]);
+        copy[low + 1] = random.pick(&[copy[low], MAX_BOUND, UNBOUNDED]);
     }
     let place = random.below(rules.len() + 1);
     rules.insert(place, copy);
@@ -107,7 +110,7 @@ fn crowd(random: &mut Random, draft: &mut Draft) {
     let last = draft.locations - 1;
     let action = random.byte(0, draft.actions - 1);
     while draft.size() < wanted {
-        let low = random.byte(0, 30);
+        let low = random.byte(0, MAX_BOUND);
         let location = random.below(draft.outgoing.len());
         let target = random.byte(0, last);
         draft.outgoing[location].push([action, target, 0, low, low, 0, UNBOUNDED]);
@@ -263,17 +266,18 @@ fn wrong_bounds(random: &mut Random, victim: &mut Victim) {
     let other = if field % 2 == 1 { field + 1 } else { field - 1 };
     let beside = bytes.get(place + other).copied().unwrap_or(0);
     let near = [beside.wrapping_add(1), beside.wrapping_sub(1), beside];
-    let edges = [0, 1, 29, 30, 31, 32, 254, 255];
-    let value = if random.chance(50) {
-        random.pick(&near)
-    } else {
-        random.pick(&edges)
+    let value = match random.below(8) {
+        0..4 => random.pick(&near),
+        4 => random.byte(EARLIER_MOST, EARLIER_MOST + 2),
+        5 => random.byte(MAX_BOUND - 1, MAX_BOUND + 2),
+        _ => random.pick(&[0, 1, MAX_BOUND + 1, 254, 255]),
     };
     set(bytes, place + field, value);
 }
 
-/// A low at 30 or 31 without upper bound, or a high next to its low, to 30,
-/// or to 255.
+/// A low next to the largest bound without upper bound, or a high next to its
+/// low, to the largest bound, or to 255. At times a bound is next to the one
+/// that was the largest.
 fn edge_bound(random: &mut Random, victim: &mut Victim) {
     let Victim { draft, bytes } = victim;
     let Some(place) = some_place(random, draft) else {
@@ -281,12 +285,23 @@ fn edge_bound(random: &mut Random, victim: &mut Victim) {
     };
     let low = place + 3 + 2 * random.below(draft.clocks.into());
     if random.chance(40) {
-        bytes[low] = random.pick(&[30, 31]);
+        let earlier = random.byte(EARLIER_MOST, EARLIER_MOST + 1);
+        bytes[low] = random.pick(&[earlier, MAX_BOUND, MAX_BOUND + 1, MAX_BOUND + 1]);
         bytes[low + 1] = UNBOUNDED;
     } else {
         let beside = bytes[low];
         let below = beside.saturating_sub(1);
-        bytes[low + 1] = random.pick(&[below, beside, 30, 31, 31, 254, UNBOUNDED]);
+        let past = random.pick(&[MAX_BOUND + 1, MAX_BOUND + 1, MAX_BOUND + 1, 254]);
+        let edges = [
+            below,
+            beside,
+            EARLIER_MOST + 1,
+            MAX_BOUND,
+            past,
+            past,
+            UNBOUNDED,
+        ];
+        bytes[low + 1] = random.pick(&edges);
     }
 }
 

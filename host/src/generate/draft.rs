@@ -16,6 +16,10 @@ pub struct Draft {
     pub outgoing: Vec<Vec<[u8; RULE]>>,
 }
 
+/// The largest bound before it was raised. A box that still refuses the next one,
+/// or takes readings above it for the same, must be found.
+pub const EARLIER_MOST: u8 = 30;
+
 /// Which numbers the guards are cut at.
 #[derive(Clone, Copy, Debug)]
 pub struct Bounds {

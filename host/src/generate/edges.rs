@@ -2,7 +2,7 @@
 //! tick off.
 
 use super::calls::{Pace, Plan, Script};
-use super::draft::{draw, Draft, Goal, Profile};
+use super::draft::{draw, Draft, Goal, Profile, EARLIER_MOST};
 use super::kinds::{not_dropped, plan, profile};
 use crate::limits::MAX_BOUND;
 use crate::monitor::Monitor;
@@ -24,7 +24,7 @@ const FAR: Pace = Pace {
 pub fn bound_edges(random: &mut Random) -> Vec<u8> {
     let mut script = dark_script(random);
     let plan = plan(random).steering(80, not_dropped).pacing(FAR);
-    for _ in 0..random.between(30, 60) {
+    for _ in 0..random.between(50, 90) {
         edge_call(random, &mut script, &plan);
         if script.monitor().lamp() && random.chance(40) {
             break;
@@ -115,10 +115,12 @@ fn shape(random: &mut Random) -> Shape {
     }
 }
 
-/// A bound, often one of the least or the largest.
+/// A bound, often one of the least or the largest, or next to the one that was
+/// the largest.
 fn bound(random: &mut Random) -> u8 {
     let any = random.byte(0, MAX_BOUND);
-    random.pick(&[0, 1, MAX_BOUND - 1, MAX_BOUND, any, any, any, any])
+    let earlier = random.byte(EARLIER_MOST, EARLIER_MOST + 1);
+    random.pick(&[0, 1, earlier, MAX_BOUND - 1, MAX_BOUND, any, any, any])
 }
 
 /// At times, a shape that ends right below another, or one that starts right

@@ -4,15 +4,16 @@ use super::blocks::{many_calls, whole_blocks};
 use super::calls::{push_call, push_random_calls, Pace, Plan, Script};
 use super::damage::{at_an_edge, damaged};
 use super::dated::dated_lists;
-use super::draft::{draw, Bounds, Draft, Goal, Profile};
+use super::draft::{draw, Bounds, Draft, Goal, Profile, EARLIER_MOST};
 use super::edges::bound_edges;
 use super::used_up::{used_up, used_up_lit, used_up_played};
 use super::with_length;
 use crate::course::{A, B, C, D, E};
-use crate::limits::{LAST_DATE, MAX_PENDING};
+use crate::limits::{LAST_DATE, MAX_BOUND, MAX_PENDING};
 use crate::monitor::Answer;
 use crate::random::Random;
 use crate::refusal::Refusal;
+use crate::sets::CAP;
 use crate::sheet::UNBOUNDED;
 use crate::used_up::{of_a_last_list, of_a_lit_box, of_all_fates};
 
@@ -76,20 +77,39 @@ pub fn kind_named(name: &str) -> Option<&'static Kind> {
 
 pub(super) const SMALL: Bounds = Bounds { low: 1, high: 5 };
 pub(super) const MIDDLE: Bounds = Bounds { low: 1, high: 14 };
-const LARGE: Bounds = Bounds { low: 25, high: 30 };
-pub(super) const ALL: Bounds = Bounds { low: 0, high: 30 };
+/// Up to the largest bound before it was raised.
+const EARLIER: Bounds = Bounds {
+    low: EARLIER_MOST - 5,
+    high: EARLIER_MOST,
+};
+/// The bounds around that one.
+const RAISED: Bounds = Bounds {
+    low: EARLIER_MOST - 1,
+    high: EARLIER_MOST + 2,
+};
+const LARGE: Bounds = Bounds {
+    low: MAX_BOUND - 5,
+    high: MAX_BOUND,
+};
+pub(super) const ALL: Bounds = Bounds {
+    low: 0,
+    high: MAX_BOUND,
+};
+
+/// Ticks after which every reading is above all bounds.
+pub(super) const CAPPED: u32 = CAP as u32;
 
 pub(super) const SLOW: Pace = Pace {
     still: 60,
     jumps: 5,
     step: 2,
-    jump: 35,
+    jump: CAPPED + 5,
 };
 pub(super) const STEADY: Pace = Pace {
     still: 35,
     jumps: 15,
     step: 5,
-    jump: 40,
+    jump: CAPPED + 10,
 };
 
 pub(super) fn not_dropped(answer: &Answer) -> bool {
@@ -105,6 +125,14 @@ fn schedules(answer: &Answer) -> bool {
         answer,
         Answer::Scheduled { .. } | Answer::Refused(Refusal::S2 | Refusal::S3)
     )
+}
+
+/// The bounds of a middling automaton. Half are small or middling, so that several
+/// actions fit before they end.
+fn bounds(random: &mut Random) -> Bounds {
+    random.pick(&[
+        SMALL, SMALL, SMALL, MIDDLE, MIDDLE, EARLIER, RAISED, LARGE, ALL, ALL,
+    ])
 }
 
 /// A profile of a middling automaton.
@@ -125,7 +153,7 @@ pub fn profile(random: &mut Random, clocks: u8) -> Profile {
         locations: (1, random.pick(&[2, 4, 8, 16])),
         clocks,
         actions: (1, random.pick(&[2, 3, 6, 16])),
-        bounds: random.pick(&[SMALL, SMALL, MIDDLE, LARGE, ALL]),
+        bounds: bounds(random),
         splits: random.between(0, 3),
         density: random.between(20, 90),
         forward: random.between(30, 90),
@@ -175,7 +203,7 @@ fn deadlines(random: &mut Random) -> Vec<u8> {
     let profile = Profile {
         locations: (3, 8),
         actions: (1, 4),
-        bounds: random.pick(&[MIDDLE, LARGE, ALL]),
+        bounds: random.pick(&[MIDDLE, MIDDLE, RAISED, LARGE, ALL, ALL]),
         splits: random.between(1, 3),
         forward: 85,
         resets: random.between(0, 35),
@@ -316,7 +344,7 @@ fn late(random: &mut Random) -> Vec<u8> {
     let early = random.pick(&[0, 1, 4, 45]);
     let start = general.collecting(0).pacing(SLOW);
     script.follow(random, start.steering(90, schedules).times(early));
-    let before = random.pick(&[0, 1, 5, 31, 32, 60, 200]);
+    let before = random.pick(&[0, 1, 5, CAPPED, CAPPED + 1, 2 * CAPPED, 200]);
     script.offer(0, LAST_DATE - random.between(0, before));
     script.follow(random, general);
     script.follow(random, general.steering(90, schedules).times(10));
@@ -436,7 +464,7 @@ fn small_bytes(random: &mut Random, bytes: &[u8]) -> Vec<u8> {
 fn tiny_sheet(random: &mut Random) -> Vec<u8> {
     let clocks = random.byte(1, 2);
     let mut sheet = vec![1, clocks, 2, 0, random.byte(0, 1), 0, 10, 0, 7, 0];
-    let highs = [1, 0, 1, 30, UNBOUNDED, 30, UNBOUNDED];
+    let highs = [1, 0, 1, MAX_BOUND, UNBOUNDED, MAX_BOUND, UNBOUNDED];
     sheet.extend(highs.map(|high| random.byte(0, high)));
     // Mostly no upper bounds, and nothing for clock 2.
     for (at, value) in [(14, UNBOUNDED), (15, 0), (16, UNBOUNDED)] {

@@ -2,12 +2,16 @@
 //! dates of their calls moved there.
 
 use super::calls::push_call;
+use super::kinds::CAPPED;
 use crate::desk::{self, CALL, COLLECTION};
-use crate::limits::LAST_DATE;
+use crate::limits::{LAST_DATE, MAX_PENDING};
 use crate::random::Random;
 
 /// Dates of calls from here on are there for the last date, and are not moved.
 const LATE: u32 = LAST_DATE / 2;
+
+/// Ticks that no correction takes more than.
+const LONGEST: u32 = CAPPED * (MAX_PENDING as u32 + 1);
 
 /// Puts a random loading date before an input and moves its calls there.
 pub fn at_a_date(random: &mut Random, plain: &[u8]) -> Vec<u8> {
@@ -35,7 +39,7 @@ fn loading_date(random: &mut Random) -> u32 {
         8..24 => random.between(1, 60),
         24..60 => random.between(1, LAST_DATE),
         60..80 => {
-            let before = random.pick(&[4, 40, 200, 600]);
+            let before = random.pick(&[4, CAPPED, 200, LONGEST]);
             LAST_DATE - random.between(1, before)
         }
         80..86 => LAST_DATE,

@@ -12,7 +12,7 @@ mod used_up;
 
 pub use blocks::BLOCK;
 pub use damage::{at_an_edge, damaged};
-pub use draft::{draw, Bounds, Draft, Goal, Profile};
+pub use draft::{draw, Bounds, Draft, Goal, Profile, EARLIER_MOST};
 pub use kinds::{kind_named, profile, Kind, KINDS, ONCE};
 
 use crate::loading::Loading;

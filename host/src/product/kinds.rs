@@ -4,7 +4,7 @@ use super::counted::{counts, least_locations, sheet_with, Counts};
 use super::{rule_count, OUTPUT};
 use crate::course::{A, B, C, D, E};
 use crate::generate::{at_an_edge, damaged, draw, profile, Draft, Profile};
-use crate::limits::MAX_TRANSITIONS;
+use crate::limits::{MAX_BOUND, MAX_TRANSITIONS};
 use crate::random::Random;
 use crate::refusal::Refusal;
 use crate::seeds::Named;
@@ -222,7 +222,7 @@ fn with_second_clock(random: &mut Random, draft: &mut Draft) {
             rule[2] |= 2;
         }
         if random.chance(40) {
-            rule[5] = random.byte(0, 30);
+            rule[5] = random.byte(0, MAX_BOUND);
         }
     }
 }

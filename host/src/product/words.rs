@@ -4,6 +4,7 @@
 use crate::limits::LAST_DATE;
 use crate::random::Random;
 use crate::runs::{beginning, satisfies, Reached, TimedAction};
+use crate::sets::CAP;
 use crate::sheet::{Automaton, Transition};
 use std::fmt;
 
@@ -25,6 +26,9 @@ impl fmt::Display for Word {
 
 /// Words along each of the automata, and as many at random.
 const EACH: usize = 10;
+
+/// Ticks after which every reading is above all bounds.
+const LONG: u32 = CAP as u32;
 
 /// Most events of a word.
 const MOST: usize = 12;
@@ -91,7 +95,7 @@ pub fn taken(sheets: &[Automaton; 2], joined: &Automaton, word: &Word) -> Result
 
 /// A loading date.
 fn loaded(random: &mut Random) -> u32 {
-    let soon = random.between(1, 40);
+    let soon = random.between(1, LONG);
     let any = random.between(0, LAST_DATE);
     random.pick(&[0, 0, soon, any, LAST_DATE])
 }
@@ -167,7 +171,7 @@ fn ticks(random: &mut Random, transition: &Transition, reached: &Reached) -> Opt
             most = Some(most.map_or(left, |most| most.min(left)));
         }
     }
-    let long = fewest + random.pick(&[0, 1, 5, 40, 1000]);
+    let long = fewest + random.pick(&[0, 1, 5, LONG, 1000]);
     let most = most.unwrap_or(long);
     if fewest > most {
         return None;
@@ -199,7 +203,7 @@ fn at_random(random: &mut Random, actions: u8) -> Word {
     let mut date = loaded;
     let mut next = |_| {
         let short = random.between(0, 5);
-        let long = random.between(0, 35);
+        let long = random.between(0, LONG + 5);
         date += random.pick(&[0, 0, 1, short, short, long]);
         let action = random.byte(0, actions - 1);
         TimedAction { action, date }

@@ -2,9 +2,14 @@
 //! bytes, keeps everything ever scheduled, and tries every dating up to a
 //! bound with exact readings.
 
+use host::limits::MAX_BOUND;
 use host::monitor::{Answer, ScheduledAction};
 use host::refusal::Refusal;
 use std::collections::HashSet;
+
+/// A reading above every bound.
+const ABOVE: u32 = 50;
+const _: () = assert!(ABOVE > MAX_BOUND as u32);
 
 /// Where a run stands: the location and the date at which each clock was 0.
 #[derive(Clone, Copy, PartialEq, Eq, Hash)]
@@ -141,8 +146,8 @@ impl Book {
     /// Whether some dating of the list, then further commands, satisfy.
     fn open(&self, list: &[u8], t: u32) -> bool {
         let ends = self.datings(list, t).into_iter();
-        // Readings this large are above every bound.
-        let reading = |zero: u32, date: u32| (date - zero).min(40);
+        // All above act alike.
+        let reading = |zero: u32, date: u32| (date - zero).min(ABOVE);
         let mut seen: HashSet<(u8, [u32; 2])> = ends
             .map(|(_, end)| (end.location, end.zero.map(|zero| reading(zero, end.date))))
             .collect();
@@ -151,7 +156,7 @@ impl Book {
             if self.accepting(location) {
                 return true;
             }
-            let tick = readings.map(|reading| (reading + 1).min(40));
+            let tick = readings.map(|reading| (reading + 1).min(ABOVE));
             let mut next = vec![(location, tick)];
             next.extend((0..self.sheet[2]).filter_map(|command| {
                 let rule = self.rule(location, command, readings)?;

@@ -3,8 +3,8 @@
 mod book;
 
 use book::Book;
-use host::generate::{draw, Bounds, Goal, Profile};
-use host::limits::LAST_DATE;
+use host::generate::{draw, Bounds, Goal, Profile, EARLIER_MOST};
+use host::limits::{LAST_DATE, MAX_BOUND};
 use host::monitor::{Answer, Monitor};
 use host::random::Random;
 use host::refusal::Refusal;
@@ -43,6 +43,22 @@ struct Seen {
     /// Refusals for the last date; not required everywhere.
     too_late: u32,
 }
+
+/// All bounds, the last ones, and those around the earlier largest.
+const ALL: Bounds = Bounds {
+    low: 0,
+    high: MAX_BOUND,
+};
+const LAST: Bounds = Bounds {
+    low: MAX_BOUND - 4,
+    high: MAX_BOUND,
+};
+const EARLIER: Bounds = Bounds {
+    low: EARLIER_MOST - 2,
+    high: EARLIER_MOST + 2,
+};
+/// Ticks of a wait after which no reading is within bounds, and some more.
+const LONG: u32 = MAX_BOUND as u32 + 3;
 
 fn profile(random: &mut Random, bounds: Bounds) -> Profile {
     Profile {
@@ -181,13 +197,9 @@ fn all_bounds_lists_of_two() {
         sheets: 1500,
         calls: 12,
         list: 2,
-        bounds: &[
-            Bounds { low: 0, high: 30 },
-            Bounds { low: 26, high: 30 },
-            Bounds { low: 3, high: 12 },
-        ],
-        wait: 33,
-        step: 9,
+        bounds: &[ALL, LAST, EARLIER, Bounds { low: 3, high: 12 }],
+        wait: LONG,
+        step: 12,
         loaded: 0,
         start: 0,
     };
@@ -200,13 +212,9 @@ fn all_bounds_lists_of_three() {
         sheets: 250,
         calls: 8,
         list: 3,
-        bounds: &[
-            Bounds { low: 0, high: 30 },
-            Bounds { low: 28, high: 30 },
-            Bounds { low: 5, high: 20 },
-        ],
-        wait: 33,
-        step: 9,
+        bounds: &[ALL, LAST, Bounds { low: 5, high: 20 }],
+        wait: LONG,
+        step: 12,
         loaded: 0,
         start: 0,
     };
@@ -258,10 +266,9 @@ fn loaded_with_all_bounds() {
         sheets: 600,
         calls: 10,
         list: 2,
-        bounds: &[Bounds { low: 0, high: 30 }, Bounds { low: 3, high: 12 }],
-        wait: 33,
-        step: 9,
-        ..loaded_at(86_400, 9)
+        bounds: &[ALL, Bounds { low: 3, high: 12 }],
+        wait: LONG,
+        ..loaded_at(86_400, 12)
     };
     require(&run(&trial, 7), 25);
 }

@@ -4,6 +4,7 @@ use mathlib.Core.Path.{refl}
 use native.Mathlib.Omega.{arith}
 use borrow.Author.Tests.{not-false, eqb-true}
 use borrow.Author.Needs.{needs}
+use Rattle.enforcement.specs.Model.{top}
 use Rattle.enforcement.proofs.Loading.{size-fits}
 use Rattle.layers.proofs.Guards.{never}
 use Rattle.layers.proofs.guarded.stands.Statement.{statement}
@@ -31,7 +32,7 @@ shared-slice-read-if5 : tie.Need-shared-slice-read-if5
 shared-slice-read-if5 c = omega (arith, size-fits (c .before .before .before .before .before .before .before .before .args .s .now) (c .before .before .before .before .before .before .loads .ensures (not-false (c .before .before .before .before .before .before .loads .result) (c .before .before .before .before .before .if1 .left))))
 
 returns-5 : tie.Need-returns-5
-returns-5 c = λ e. (c .before .before .before .before .before .before .before .loads .ensures (not-false (c .before .before .before .before .before .before .before .loads .result) (c .before .before .before .before .before .before .if1 .left)), record { in-sheet = c .before .before .before .before .if2 .left; readings = record { two = refl; first = c .before .before .before .if3 .left; second = c .before .before .if4 .left }; one-clock = λ o. eqb-true (c .before .before .before .before .before .before .before .before .before .args .y) 31 e })
+returns-5 c = λ e. (c .before .before .before .before .before .before .before .loads .ensures (not-false (c .before .before .before .before .before .before .before .loads .result) (c .before .before .before .before .before .before .if1 .left)), record { in-sheet = c .before .before .before .before .if2 .left; readings = record { two = refl; first = c .before .before .before .if3 .left; second = c .before .before .if4 .left }; one-clock = λ o. eqb-true (c .before .before .before .before .before .before .before .before .before .args .y) top e })
 
 returns-6 : tie.Need-returns-6
 returns-6 c = λ e. (c .before .before .before .before .before .before .before .loads .ensures (not-false (c .before .before .before .before .before .before .before .loads .result) (c .before .before .before .before .before .before .if1 .left)), record { in-sheet = c .before .before .before .before .if2 .left; readings = record { two = refl; first = c .before .before .before .if3 .left; second = c .before .before .if4 .left }; one-clock = λ o. absurd (c .if5 .left o) })

@@ -8,7 +8,7 @@ use lib.Dec.{leb}
 use Rattle.enforcement.specs.Limits.{maxDate}
 use Rattle.enforcement.specs.Automaton.{Bytes, locations, allTransitions}
 use Rattle.enforcement.specs.Reason.{I-1, I-2, I-3, I-4, I-5, I-6, I-8}
-use Rattle.enforcement.specs.Loading.{Checked, accepted, countsOf, sizePasses, headerPasses, initialPasses, layoutPasses, allFit, disjointOver, unless, check}
+use Rattle.enforcement.specs.Loading.{Checked, accepted, countsOf, sizePasses, headerPasses, initialPasses, layoutPasses, allFit, disjointOver, unless, checkUpTo, check}
 use Rattle.retimer.specs.Checked.{Headed, LaidOut}
 use Rattle.retimer.proofs.SheetLaws.{failed, passed, refuses, goes-on, size-fits, headed, layout-passed}
 use Rattle.retimer.proofs.sheet.check.Statement.{statement}
@@ -60,7 +60,7 @@ at7 c = at6 (c .before .before)
 
 -- There the rest answers.
 past1 : (c : tie.Else1) → check (at1 c .0) (at1 c .1) ≡ rest1 (at1 c .0) (at1 c .1)
-unfolding check
+unfolding checkUpTo
 past1 c = sym (goes-on I-1 (passed (c .before .size-passes .ensures) (c .if1 .left)) refl)
 
 past2 : (c : tie.Else2) → check (at2 c .0) (at2 c .1) ≡ rest2 (at2 c .0) (at2 c .1)
@@ -95,7 +95,7 @@ size-passes-requires : tie.Need-size-passes-requires
 size-passes-requires c κs = search needs
 
 returns : tie.Need-returns
-unfolding check
+unfolding checkUpTo
 returns c = refuses I-1 _ (failed (c .before .size-passes .ensures) (c .if1 .taken))
 
 header-passes-requires : tie.Need-header-passes-requires
