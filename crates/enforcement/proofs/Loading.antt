@@ -13,7 +13,7 @@ use lib.Count.{ones}
 use Rattle.enforcement.specs.Limits.{maxCount, maxBound, maxTransitions, maxDate, maxSize}
 use Rattle.enforcement.specs.Automaton.{Bytes, word, locations, actions, clocks, initial, accepting, allTransitions}
 use Rattle.enforcement.specs.Reason.{Reason, I-1, I-2, I-3, I-4, I-5, I-6, I-7, I-8, S-1, S-2, S-3, S-4, S-5, number}
-use Rattle.enforcement.specs.Loading.{HeaderFits, BitBeyond, Layout, AllFit, HoldsUpTo, GivenUpTo, LoadsUpTo, Loads, WellFormed, countsOf, Checked, accepted, refused, sizePasses, headerPasses, initialPasses, layoutPasses, allFitUpTo, disjointOver, unless, checkUpTo, check, CheckRightUpTo, CheckRight, Bounded, Deterministic}
+use Rattle.enforcement.specs.Loading.{HeaderFits, BitBeyond, Layout, AllFit, HoldsUpTo, GivenUpTo, LoadsUpTo, Loads, WellFormed, Counts, countsOf, Checked, accepted, refused, sizePasses, headerPasses, initialPasses, layoutPasses, allFitUpTo, disjointOver, unless, checkUpTo, check, CheckRightUpTo, CheckRight, Bounded, Deterministic}
 use Rattle.enforcement.proofs.Tests.{Tests, Finds, leb-tests, leb-finds, ltb-finds, both-tests, both-finds, tests-same, finds-same, finds-not, sure}
 use Rattle.enforcement.proofs.Bits.{bit-beyond, bit-large, countBelow, ones-count}
 use Rattle.enforcement.proofs.Pairs.{layout-tests}
@@ -72,8 +72,8 @@ named-number S-5 = refl
 number-same : (q r : Reason) → number q ≡ number r → q ≡ r
 number-same q r e = sym (named-number q) ∙ ap named e ∙ named-number r
 
-answers-differ : (s : Bytes) (r : Reason) {A : Type 0} → accepted (countsOf s) ≡ refused r → A
-answers-differ s r e = let z : _≡_ {A = ℕ} 0 1 = cc in absurd (omega arith)
+pub answers-differ : {n : Counts} {r : Reason} {A : Type 0} → accepted n ≡ refused r → A
+answers-differ e = let z : _≡_ {A = ℕ} 0 1 = cc in absurd (omega arith)
 
 module _ (m : ℕ) (s : Bytes) (d : ℕ) where
   -- No reason numbered below n has its condition.
@@ -137,12 +137,12 @@ module _ (m : ℕ) (s : Bytes) (d : ℕ) where
       number-same q r (omega arith)
 
   refused-given : (k : Checked) → Right k → (r : Reason) → (k ≡ refused r) ↔ GivenUpTo m r s d
-  refused-given k (loads h) r = (answers-differ s r, λ g. absurd (h r (g .holds)))
+  refused-given k (loads h) r = (λ e. answers-differ e, λ g. absurd (h r (g .holds)))
   refused-given k (refuses q h) r = (λ e. let z : q ≡ r = cc in subst (λ (x : Reason). GivenUpTo m x s d) z h, λ g. ap refused (given-same q r h g))
 
   accepted-loads : (k : Checked) → Right k → (k ≡ accepted (countsOf s)) ↔ LoadsUpTo m s d
   accepted-loads k (loads h) = (λ e. h, λ e. refl)
-  accepted-loads k (refuses q h) = (λ e. answers-differ s q (sym e), λ l. absurd (l q (h .holds)))
+  accepted-loads k (refuses q h) = (λ e. answers-differ (sym e), λ l. absurd (l q (h .holds)))
 
   either-answer : (k : Checked) → Right k → (k ≡ accepted (countsOf s)) ⊎ ((r : Reason) × (k ≡ refused r))
   either-answer k (loads h) = inl refl

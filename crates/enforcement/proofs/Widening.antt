@@ -9,22 +9,19 @@ use native.Mathlib.Omega.{arith}
 use Rattle.enforcement.specs.Limits.{maxBound}
 use Rattle.enforcement.specs.Automaton.{Bytes, automaton, transitions, transitionsOver, allTransitions}
 use Rattle.enforcement.specs.Reason.{Reason, I-1, I-2, I-3, I-4, I-5, I-6, I-7, I-8, S-1, S-2, S-3, S-4, S-5}
-use Rattle.enforcement.specs.Loading.{HoldsUpTo, LoadsUpTo, Counts, Checked, accepted, refused, sizePasses, headerPasses, initialPasses, pairsPass, layoutPasses, fitsUpTo, allFitUpTo, overlap, overlapsNone, disjoint, disjointOver, unless, checkUpTo}
+use Rattle.enforcement.specs.Loading.{HoldsUpTo, LoadsUpTo, Checked, refused, sizePasses, headerPasses, initialPasses, pairsPass, layoutPasses, fitsUpTo, allFitUpTo, overlap, overlapsNone, disjoint, disjointOver, unless, checkUpTo}
 use Rattle.enforcement.specs.History.{History, fresh, Call, Outcome}
 use Rattle.enforcement.specs.Widening.{scopeBound, ToldUpTo, refuses, loads, Kept, AsBefore, CaseMoved}
 use Rattle.enforcement.proofs.Tests.{test-true}
 use Rattle.enforcement.proofs.Fitting.{all-fit-tests, all-fit-wider}
-use Rattle.enforcement.proofs.Loading.{check-right-up-to}
+use Rattle.enforcement.proofs.Loading.{answers-differ, check-right-up-to}
 use Rattle.enforcement.proofs.Uniqueness.{one-history}
-
-answers-differ : {n : Counts} {r : Reason} → accepted n ≡ refused r → ⊥
-answers-differ e = let z : _≡_ {A = ℕ} 0 1 = cc in absurd (omega arith)
 
 -- One thing is told, and nothing else.
 pub told-once : (b : ℕ) (s : Bytes) (d : ℕ) (ks : List Call) {a a′ : Checked} {os os′ : List Outcome} {h h′ : Option History} → ToldUpTo b s d ks a os h → ToldUpTo b s d ks a′ os′ h′ → (a ≡ a′) × (os ≡ os′) × (h ≡ h′)
 told-once b s d ks (refuses e) (refuses f) = (sym e ∙ f, refl, refl)
-told-once b s d ks (refuses e) (loads f q) = absurd (answers-differ (sym f ∙ e))
-told-once b s d ks (loads e p) (refuses f) = absurd (answers-differ (sym e ∙ f))
+told-once b s d ks (refuses e) (loads f q) = answers-differ (sym f ∙ e)
+told-once b s d ks (loads e p) (refuses f) = answers-differ (sym e ∙ f)
 told-once b s d ks (loads {os = os} {h = h} e p) (loads {os = os′} {h = h′} f q) = let z = one-history (automaton s d) (fresh (automaton s d)) ks os os′ h h′ p q in (sym e ∙ f, z .0, ap some (z .1))
 
 -- What is told where the check answers the same.
