@@ -56,8 +56,8 @@ module _ (b c : ℕ) (wider : b ≤ c) (s : Bytes) (d : ℕ) where
   loads-wider h S-4 = h S-4
   loads-wider h S-5 = h S-5
 
-  fits-wider : allFitUpTo b s (allTransitions s) ≡ true → allFitUpTo c s (allTransitions s) ≡ true
-  fits-wider e = test-true (all-fit-tests c s (allTransitions s)) (all-fit-wider wider s (allTransitions s) (all-fit-tests b s (allTransitions s) .passes e))
+  test-wider : allFitUpTo b s (allTransitions s) ≡ true → allFitUpTo c s (allTransitions s) ≡ true
+  test-wider e = test-true (all-fit-tests c s (allTransitions s)) (all-fit-wider wider s (allTransitions s) (all-fit-tests b s (allTransitions s) .passes e))
 
   answer-same : (checkUpTo b s d ≡ refused I-5 → ⊥) → checkUpTo c s d ≡ checkUpTo b s d
   unfolding checkUpTo
@@ -66,7 +66,7 @@ module _ (b c : ℕ) (wider : b ≤ c) (s : Bytes) (d : ℕ) where
       (stays-behind (headerPasses s) I-2 _ _
       (stays-behind (initialPasses s) I-3 _ _
       (stays-behind (layoutPasses s) I-4 _ _
-      (stays-passed (allFitUpTo b s (allTransitions s)) (allFitUpTo c s (allTransitions s)) _ fits-wider))))
+      (stays-passed (allFitUpTo b s (allTransitions s)) (allFitUpTo c s (allTransitions s)) _ test-wider))))
 
   pub kept : Kept b c s d
   kept = record {
@@ -87,4 +87,4 @@ as-before s d h =
 
 pub case-moved : CaseMoved
 unfolding transitions transitionsOver checkUpTo sizePasses headerPasses initialPasses pairsPass layoutPasses fitsUpTo allFitUpTo overlap overlapsNone disjoint disjointOver
-case-moved = record { loaded-30 = refl; low-31 = refl; high-31 = refl; loads-40 = refl; low-41 = refl; high-41 = refl }
+case-moved = record { loaded-30 = refl; first-low-31 = refl; first-high-31 = refl; second-low-31 = refl; second-high-31 = refl; loads-40 = refl; first-low-41 = refl; first-high-41 = refl; second-low-41 = refl; second-high-41 = refl }

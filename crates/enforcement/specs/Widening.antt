@@ -31,15 +31,19 @@ pub record AsBefore (s : Bytes) (d : ℕ) : Type 0 where
   pub answer-same : check s d ≡ checkUpTo scopeBound s d
   pub told-same : (ks : List Call) (a : Checked) (os : List Outcome) (h : Option History) → ToldUpTo maxBound s d ks a os h ↔ ToldUpTo scopeBound s d ks a os h
 
--- A sheet of one location, one clock and one rule, with these bounds.
-abbrev pub oneRule : ℕ → ℕ → Bytes
-oneRule low high = 1 ∷ 1 ∷ 1 ∷ 0 ∷ 1 ∷ 0 ∷ 10 ∷ 0 ∷ 7 ∷ 0 ∷ 0 ∷ 0 ∷ 0 ∷ low ∷ high ∷ 0 ∷ 255 ∷ []
+-- A sheet of one location, two clocks and one rule, with these bounds for each clock.
+abbrev pub oneRule : ℕ → ℕ → ℕ → ℕ → Bytes
+oneRule low1 high1 low2 high2 = 1 ∷ 2 ∷ 1 ∷ 0 ∷ 1 ∷ 0 ∷ 10 ∷ 0 ∷ 7 ∷ 0 ∷ 0 ∷ 0 ∷ 0 ∷ low1 ∷ high1 ∷ low2 ∷ high2 ∷ []
 
--- Document 01's case, 30 loads and 31 is I-5, moves: 40 loads, 41 is I-5.
+-- Document 01's case, 30 loads and 31 is I-5, moves: 40 loads, 41 is I-5; as low and as high of each clock.
 pub record CaseMoved : Type 0 where
-  pub loaded-30 : checkUpTo scopeBound (oneRule 30 30) 0 ≡ accepted (countsOf (oneRule 30 30))
-  pub low-31 : checkUpTo scopeBound (oneRule 31 255) 0 ≡ refused I-5
-  pub high-31 : checkUpTo scopeBound (oneRule 0 31) 0 ≡ refused I-5
-  pub loads-40 : check (oneRule 40 40) 0 ≡ accepted (countsOf (oneRule 40 40))
-  pub low-41 : check (oneRule 41 255) 0 ≡ refused I-5
-  pub high-41 : check (oneRule 0 41) 0 ≡ refused I-5
+  pub loaded-30 : checkUpTo scopeBound (oneRule 30 30 30 30) 0 ≡ accepted (countsOf (oneRule 30 30 30 30))
+  pub first-low-31 : checkUpTo scopeBound (oneRule 31 255 0 255) 0 ≡ refused I-5
+  pub first-high-31 : checkUpTo scopeBound (oneRule 0 31 0 255) 0 ≡ refused I-5
+  pub second-low-31 : checkUpTo scopeBound (oneRule 0 255 31 255) 0 ≡ refused I-5
+  pub second-high-31 : checkUpTo scopeBound (oneRule 0 255 0 31) 0 ≡ refused I-5
+  pub loads-40 : check (oneRule 40 40 40 40) 0 ≡ accepted (countsOf (oneRule 40 40 40 40))
+  pub first-low-41 : check (oneRule 41 255 0 255) 0 ≡ refused I-5
+  pub first-high-41 : check (oneRule 0 41 0 255) 0 ≡ refused I-5
+  pub second-low-41 : check (oneRule 0 255 41 255) 0 ≡ refused I-5
+  pub second-high-41 : check (oneRule 0 255 0 41) 0 ≡ refused I-5
