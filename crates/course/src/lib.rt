@@ -1,4 +1,6 @@
 // The course sheets A to E of document 01 as constant tables.
+#![tactic(auto)]
+
 ghost use Rattle.std.specs.Prelude.{◌≡◌};
 ghost use Rattle.course.specs.Sheets.{sheet_a, sheet_b, sheet_c, sheet_d, sheet_e};
 

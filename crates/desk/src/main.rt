@@ -1,4 +1,8 @@
 // The desk program.
-fn main() {
-    marking::desk::run();
+#![tactic(auto)]
+
+use std::io;
+
+fn main(rt: HostRuntime) -> io::Result<()> {
+    marking::desk::run(&rt)
 }

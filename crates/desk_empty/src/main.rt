@@ -1,4 +1,8 @@
 // The desk program on a single byte: too few bytes for the length are I-1.
-fn main() {
-    marking::desk::run();
+#![tactic(auto)]
+
+use std::io;
+
+fn main(rt: HostRuntime) -> io::Result<()> {
+    marking::desk::run(&rt)
 }

@@ -1,4 +1,8 @@
 // The desk program on sheet A without its last byte: too few bytes for the sheet are I-1.
-fn main() {
-    marking::desk::run();
+#![tactic(auto)]
+
+use std::io;
+
+fn main(rt: HostRuntime) -> io::Result<()> {
+    marking::desk::run(&rt)
 }

@@ -1,8 +1,12 @@
 -- How many calls of five bytes there is room for.
 -- Assumes nothing.
-use mathlib.Core.Path.{◌≡◌}
+use mathlib.Core.Path.{◌≡◌, sym}
+use mathlib.Core.List.{List}
 use Prim.Native.Nat.{ℕ, suc, ◌+◌, ◌-◌, ◌*◌, ◌/◌, ◌≤◌, ◌<◌}
 use native.Mathlib.Omega.{arith}
+use lib.ListN.{length}
+use lib.Seq.{length-take-le}
+use Rattle.std.specs.Counts.{IsPrefixLen}
 use Rattle.drafting.specs.Scripts.{fitting}
 
 module _ (size at : ℕ) where
@@ -34,3 +38,7 @@ done a b n e h = omega arith
 
 pub past : (a b n : ℕ) → a ≡ b + n → b ≤ a
 past a b n h = omega arith
+
+-- A place within a buffer counts bytes of it.
+pub counted : (n : ℕ) (xs : List ℕ) → n ≤ length xs → IsPrefixLen n xs
+counted n xs h = (h, sym (length-take-le n xs h))

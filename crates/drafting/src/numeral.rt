@@ -5,7 +5,7 @@ ghost use Rattle.drafting.specs.Numerals.{is_digit, first_digit, with_digit, num
 use crate::field;
 
 // A number, and the place after its digits.
-#[derive(Drop)]
+#[derive(Clone, Copy)]
 pub struct Numeral {
     pub value: u64,
     pub end: usize,

@@ -1,6 +1,6 @@
 // Bytes of sheets and calls from texts.
 ghost use Rattle.std.specs.Prelude.{◌≡◌, ◌+◌, ◌-◌, ◌*◌, ◌/◌, ◌%◌, ◌≤◌, length};
-ghost use Rattle.io.specs.Counts.{IsPrefixLen};
+ghost use Rattle.std.specs.Counts.{IsPrefixLen};
 ghost use Rattle.drafting.specs.Scripts.{Put, bytes_of, is_times, call_from, entry_at, call_bytes, fitting, entry_bytes, calls_of};
 
 use crate::numeral;
@@ -31,7 +31,7 @@ pub fn bytes_of(text: &[u8], out: &mut [u8]) -> usize
 }
 
 // A call, how often it is made, and the place after it in the text.
-#[derive(Drop)]
+#[derive(Clone, Copy)]
 struct Entry {
     times: u64,
     action: u64,

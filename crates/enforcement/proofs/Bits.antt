@@ -93,11 +93,11 @@ digits_and (suc zero) (suc (suc e)) h g = absurd (omega arith)
 digit_small : (n : ℕ) → n % 2 < 2
 digit_small n = mod-lt n (zero-lt-suc 1)
 
-pub bit_or : (a b x : ℕ) → bit (bit_or a b) x ≡ (bit a x || bit b x)
-bit_or a b x = ap (λ (n : ℕ). eqb n 1) (ap (λ (n : ℕ). n % 2) (or_shr a b x) ∙ or_mod (a / 2 ^ x) (b / 2 ^ x) 1) ∙ digits_or (a / 2 ^ x % 2) (b / 2 ^ x % 2) (digit_small (a / 2 ^ x)) (digit_small (b / 2 ^ x))
+pub bit_of_or : (a b x : ℕ) → bit (bit_or a b) x ≡ (bit a x || bit b x)
+bit_of_or a b x = ap (λ (n : ℕ). eqb n 1) (ap (λ (n : ℕ). n % 2) (or_shr a b x) ∙ or_mod (a / 2 ^ x) (b / 2 ^ x) 1) ∙ digits_or (a / 2 ^ x % 2) (b / 2 ^ x % 2) (digit_small (a / 2 ^ x)) (digit_small (b / 2 ^ x))
 
-pub bit_and : (a b x : ℕ) → bit (bit_and a b) x ≡ (bit a x && bit b x)
-bit_and a b x = ap (λ (n : ℕ). eqb n 1) (ap (λ (n : ℕ). n % 2) (and_shr a b x) ∙ and_mod (a / 2 ^ x) (b / 2 ^ x) 1) ∙ digits_and (a / 2 ^ x % 2) (b / 2 ^ x % 2) (digit_small (a / 2 ^ x)) (digit_small (b / 2 ^ x))
+pub bit_of_and : (a b x : ℕ) → bit (bit_and a b) x ≡ (bit a x && bit b x)
+bit_of_and a b x = ap (λ (n : ℕ). eqb n 1) (ap (λ (n : ℕ). n % 2) (and_shr a b x) ∙ and_mod (a / 2 ^ x) (b / 2 ^ x) 1) ∙ digits_and (a / 2 ^ x % 2) (b / 2 ^ x % 2) (digit_small (a / 2 ^ x)) (digit_small (b / 2 ^ x))
 
 -- A union is no smaller.
 pub or_grows : (a b : ℕ) → a ≤ bit_or a b
@@ -121,10 +121,10 @@ and_shown true b e = e.1
 and_shown false b e = e.0
 
 pub in_or : (a b x : ℕ) → In x (bit_or a b) ↔ (In x a ⊎ In x b)
-in_or a b x = (λ h. or_cases (bit a x) (bit b x) (sym (bit_or a b x) ∙ h), λ h. bit_or a b x ∙ or_shown (bit a x) (bit b x) h)
+in_or a b x = (λ h. or_cases (bit a x) (bit b x) (sym (bit_of_or a b x) ∙ h), λ h. bit_of_or a b x ∙ or_shown (bit a x) (bit b x) h)
 
 pub in_and : (a b x : ℕ) → In x (bit_and a b) ↔ (In x a × In x b)
-in_and a b x = (λ h. and_cases (bit a x) (bit b x) (sym (bit_and a b x) ∙ h), λ h. bit_and a b x ∙ and_shown (bit a x) (bit b x) h)
+in_and a b x = (λ h. and_cases (bit a x) (bit b x) (sym (bit_of_and a b x) ∙ h), λ h. bit_of_and a b x ∙ and_shown (bit a x) (bit b x) h)
 
 -- The bits of a that b has not.
 digits_without : (d e : ℕ) → d < 2 → e < 2 → eqb (bit_and d (bit_xor d e)) 1 ≡ (eqb d 1 && not (eqb e 1))

@@ -126,28 +126,28 @@ data Covers (t : ℕ) : List Event → List ℕ → List Event → Type 0 where
   delays : {v : List Event} {cs : List ℕ} {w : List Event} (c s d : ℕ) → s ≤ d → Covers t v cs w → Covers t (record { action = c; date = d } ∷ v) cs (record { action = c; date = s } ∷ w)
   waits : {cs : List ℕ} {w : List Event} (c s : ℕ) → s ≤ t → Covers t [] cs w → Covers t [] (c ∷ cs) (record { action = c; date = s } ∷ w)
 
-covers_later : {v : List Event} {cs : List ℕ} {w : List Event} (t u : ℕ) → t ≤ u → Covers t v cs w → Covers u v cs w
+covers_later : (t u : ℕ) {v : List Event} {cs : List ℕ} {w : List Event} → t ≤ u → Covers t v cs w → Covers u v cs w
 covers_later t u l Covers.end = Covers.end
 covers_later t u l (Covers.omits e x) = Covers.omits e (covers_later t u l x)
 covers_later t u l (Covers.delays c s d h x) = Covers.delays c s d h (covers_later t u l x)
 covers_later t u l (Covers.waits c s h x) = Covers.waits c s (omega arith) (covers_later t u l x)
 
 -- One more event is left out.
-covers_omits : {v : List Event} {cs : List ℕ} {w : List Event} (t : ℕ) (e : Event) → Covers t v cs w → Covers t v cs (w ++ one e)
+covers_omits : (t : ℕ) {v : List Event} {cs : List ℕ} {w : List Event} (e : Event) → Covers t v cs w → Covers t v cs (w ++ one e)
 covers_omits t e Covers.end = Covers.omits e Covers.end
 covers_omits t e (Covers.omits f x) = Covers.omits f (covers_omits t e x)
 covers_omits t e (Covers.delays c s d h x) = Covers.delays c s d h (covers_omits t e x)
 covers_omits t e (Covers.waits c s h x) = Covers.waits c s h (covers_omits t e x)
 
 -- One more action waits.
-covers_joins : {v : List Event} {cs : List ℕ} {w : List Event} (t c : ℕ) → Covers t v cs w → Covers t v (cs ++ one c) (w ++ one (record { action = c; date = t }))
+covers_joins : (t c : ℕ) {v : List Event} {cs : List ℕ} {w : List Event} → Covers t v cs w → Covers t v (cs ++ one c) (w ++ one (record { action = c; date = t }))
 covers_joins t c Covers.end = Covers.waits c t (le_refl t) Covers.end
 covers_joins t c (Covers.omits e x) = Covers.omits e (covers_joins t c x)
 covers_joins t c (Covers.delays b s d h x) = Covers.delays b s d h (covers_joins t c x)
 covers_joins t c (Covers.waits b s h x) = Covers.waits b s h (covers_joins t c x)
 
 -- The waiting actions get dates.
-covers_dates : {v : List Event} {cs : List ℕ} {w : List Event} (t : ℕ) (ds : List ℕ) → length ds ≡ length cs → Monotone t ds → Covers t v cs w → Covers t (v ++ stamp cs ds) [] w
+covers_dates : (t : ℕ) {v : List Event} {cs : List ℕ} {w : List Event} (ds : List ℕ) → length ds ≡ length cs → Monotone t ds → Covers t v cs w → Covers t (v ++ stamp cs ds) [] w
 unfolding stamp
 covers_dates t ds l m Covers.end = Covers.end
 covers_dates t ds l m (Covers.omits e x) = Covers.omits e (covers_dates t ds l m x)
@@ -155,7 +155,7 @@ covers_dates t ds l m (Covers.delays c s d h x) = Covers.delays c s d h (covers_
 covers_dates t [] l m (Covers.waits c s h x) = absurd (omega arith)
 covers_dates t (d ∷ ds) l m (Covers.waits c s h x) = Covers.delays c s d (omega (arith, m.0)) (covers_dates t ds (omega arith) (monotone_from t d ds m.0 m.1) x)
 
-covers_delayed : {v : List Event} {cs : List ℕ} {w : List Event} (t : ℕ) → Covers t v cs w → Delayed v w
+covers_delayed : (t : ℕ) {v : List Event} {cs : List ℕ} {w : List Event} → Covers t v cs w → Delayed v w
 covers_delayed t Covers.end = Delayed.end
 covers_delayed t (Covers.omits e x) = Delayed.omits e (covers_delayed t x)
 covers_delayed t (Covers.delays c s d h x) = Delayed.delays c s d h (covers_delayed t x)

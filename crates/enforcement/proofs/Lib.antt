@@ -4,6 +4,7 @@ pub mod Bits
 pub mod Pairs
 pub mod Fitting
 pub mod Overlaps
+pub mod Reasons
 pub mod Loading
 pub mod Slots
 pub mod Memo
@@ -27,5 +28,7 @@ pub mod Model
 pub mod Promises
 pub mod Clocks
 pub mod Shifting
+pub mod Offers
 pub mod Shifts
+pub mod Staying
 pub mod Widening

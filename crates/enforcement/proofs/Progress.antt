@@ -8,7 +8,7 @@ use native.Mathlib.Nat.{le_refl}
 use lib.ListN.{length, length-append}
 use Rattle.enforcement.specs.Automaton.{Automaton, actions}
 use Rattle.enforcement.specs.TimedWord.{Configuration, Event, elapse, Run, Monotone, last_of, last_date, dates_of, stamp, origin, step, Accepting, Accepts, Known, Timing, Correction, Continues, OneIfNone}
-use Rattle.enforcement.specs.History.{Request, Slot, actions_of, word_of, History, fresh, Call, offer, Outcome, dropped, numbered_next, joined, Passes, Corrects, Uncorrectable, IsOpen, after_schedule, after_hold, after_drop, Dark, Schedulable, Schedulable.schedules, Schedulable.holds, Schedulable.drops, Answers, unknown, late, past, no_number, too_late, no_place, Answers.schedules, full, Answers.holds, Answers.drops, late_collect, past_collect, plays, too_early, empty, is_dark, is_lit_lamp, HistoryOf, end, call}
+use Rattle.enforcement.specs.History.{Request, Slot, actions_of, word_of, History, fresh, Call, offer, Outcome, dropped, numbered_next, joined, Passes, Corrects, Uncorrectable, IsOpen, after_schedule, after_hold, after_drop, Dark, Schedulable, Answers, unknown, late, past, no_number, too_late, no_place, full, late_collect, past_collect, plays, too_early, empty, is_dark, is_lit_lamp, HistoryOf, end, call}
 use Rattle.enforcement.proofs.Slots.{actions_append}
 use Rattle.enforcement.proofs.Saturation.{Steps, Ending}
 use Rattle.enforcement.proofs.Runs
@@ -253,14 +253,17 @@ history_lit 𝒜 ℋ ℋ' ks os l end g = l g
 history_lit 𝒜 ℋ ℋ' ks os l (call {h' = x} {ks = rest} {os = us} h r) g = history_lit 𝒜 x ℋ' rest us (change_lit 𝒜 ℋ x l (change h)) r g
 
 -- Every offer that passes the first checks is then dropped.
+drops_by : (𝒜 : Automaton) (ℋ : History) (c t : ℕ) (ℋ' : History) (o : Outcome) → (Dark 𝒜 ℋ → ⊥) → Passes 𝒜 ℋ c t → Answers 𝒜 ℋ (offer c t) o ℋ' → o ≡ dropped
+drops_by 𝒜 ℋ c t ℋ' o l q (unknown h) = absurd (omega arith)
+drops_by 𝒜 ℋ c t ℋ' o l q (late h i) = absurd (omega arith)
+drops_by 𝒜 ℋ c t ℋ' o l q (past h i j) = absurd (omega arith)
+drops_by 𝒜 ℋ c t ℋ' o l q (no_number h i j k) = absurd (omega arith)
+drops_by 𝒜 ℋ c t ℋ' o l q (too_late p x f) = absurd (l (joined_continues 𝒜 ℋ c t p.known p.current (correction_open x)))
+drops_by 𝒜 ℋ c t ℋ' o l q (no_place p b h i) = absurd (l (joined_continues 𝒜 ℋ c t p.known p.current (correction_open b.correction)))
+drops_by 𝒜 ℋ c t ℋ' o l q (Answers.schedules p b h i) = absurd (l (joined_continues 𝒜 ℋ c t p.known p.current (correction_open b.correction)))
+drops_by 𝒜 ℋ c t ℋ' o l q (full p un op h) = absurd (l (joined_continues 𝒜 ℋ c t p.known p.current op))
+drops_by 𝒜 ℋ c t ℋ' o l q (Answers.holds p un op h) = absurd (l (joined_continues 𝒜 ℋ c t p.known p.current op))
+drops_by 𝒜 ℋ c t ℋ' o l q (Answers.drops p un sh) = refl
+
 pub lit_drops : (𝒜 : Automaton) (ℋ ℋ' : History) (c t : ℕ) (o : Outcome) → (Dark 𝒜 ℋ → ⊥) → Passes 𝒜 ℋ c t → Answers 𝒜 ℋ (offer c t) o ℋ' → o ≡ dropped
-lit_drops 𝒜 ℋ ℋ' c t o l q (unknown h) = absurd (omega arith)
-lit_drops 𝒜 ℋ ℋ' c t o l q (late h i) = absurd (omega arith)
-lit_drops 𝒜 ℋ ℋ' c t o l q (past h i j) = absurd (omega arith)
-lit_drops 𝒜 ℋ ℋ' c t o l q (no_number h i j k) = absurd (omega arith)
-lit_drops 𝒜 ℋ ℋ' c t o l q (too_late p x f) = absurd (l (joined_continues 𝒜 ℋ c t p.known p.current (correction_open x)))
-lit_drops 𝒜 ℋ ℋ' c t o l q (no_place p b h i) = absurd (l (joined_continues 𝒜 ℋ c t p.known p.current (correction_open b.correction)))
-lit_drops 𝒜 ℋ ℋ' c t o l q (Answers.schedules p b h i) = absurd (l (joined_continues 𝒜 ℋ c t p.known p.current (correction_open b.correction)))
-lit_drops 𝒜 ℋ ℋ' c t o l q (full p un op h) = absurd (l (joined_continues 𝒜 ℋ c t p.known p.current op))
-lit_drops 𝒜 ℋ ℋ' c t o l q (Answers.holds p un op h) = absurd (l (joined_continues 𝒜 ℋ c t p.known p.current op))
-lit_drops 𝒜 ℋ ℋ' c t o l q (Answers.drops p un sh) = refl
+lit_drops 𝒜 ℋ ℋ' c t o l q k = drops_by 𝒜 ℋ c t ℋ' o l q k

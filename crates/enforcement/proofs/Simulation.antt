@@ -14,7 +14,7 @@ use Rattle.enforcement.specs.Automaton.{Automaton}
 use Rattle.enforcement.specs.TimedWord.{Configuration, Event, last_of}
 use Rattle.enforcement.specs.Reason.{i_7, i_8, s_1, s_2, s_3, s_4, s_5}
 use Rattle.enforcement.specs.Loading.{Bounded}
-use Rattle.enforcement.specs.History.{Request, Slot, actions_of, word_of, place, History, schedule, free_slots, Call, offer, collect, lamp, Outcome, scheduled, played, nothing, lit, dark, refused, numbered_next, joined, Passes, Chosen, Uncorrectable, IsOpen, after_schedule, after_hold, after_drop, after_date, after_play, Dark, Answers, unknown, late, past, no_number, too_late, no_place, Answers.schedules, full, Answers.holds, Answers.drops, late_collect, past_collect, plays, too_early, empty, is_dark, is_lit_lamp, HistoryOf, end, call}
+use Rattle.enforcement.specs.History.{Request, Slot, actions_of, word_of, place, History, schedule, free_slots, Call, offer, collect, lamp, Outcome, scheduled, nothing, lit, dark, refused, numbered_next, joined, Passes, Chosen, Uncorrectable, IsOpen, after_schedule, after_hold, after_drop, after_date, after_play, Dark, Answers, unknown, late, past, no_number, too_late, no_place, full, late_collect, past_collect, plays, too_early, empty, is_dark, is_lit_lamp, HistoryOf, end, call}
 use Rattle.enforcement.specs.Model.{Prospect, ticks, extensible, dead, Compiled, prospect, dates, advance, saturated, has_one_clock}
 use Rattle.enforcement.specs.Monitor.{Monitor, is_lit, lamp_lit, with_lamp, dated, placed, kept, decided, checked, offered, taken, oldest, picked, collected, answer, Replayed, replay}
 use Rattle.enforcement.specs.Demands.{Reaches, StandsFor, Demand2}

@@ -9,7 +9,7 @@ use Rattle.enforcement.specs.Limits.{max_count, max_date, max_numbered}
 use Rattle.enforcement.specs.Automaton.{Automaton, actions}
 use Rattle.enforcement.specs.TimedWord.{last_of}
 use Rattle.enforcement.specs.Reason.{i_7, i_8, s_1, s_2, s_3, s_4, s_5}
-use Rattle.enforcement.specs.History.{Slot, History, schedule, free_slots, Call, offer, collect, lamp, Outcome, scheduled, held, dropped, played, nothing, lit, dark, refused, joined, Corrects, Chosen, IsOpen, after_schedule, after_hold, after_drop, after_date, after_play, Dark, Answers, unknown, late, past, no_number, too_late, no_place, Answers.schedules, full, Answers.holds, Answers.drops, late_collect, past_collect, plays, too_early, empty, is_dark, is_lit_lamp, HistoryOf, end, call}
+use Rattle.enforcement.specs.History.{Slot, History, schedule, free_slots, Call, offer, collect, lamp, Outcome, scheduled, held, dropped, played, nothing, lit, dark, refused, joined, Corrects, Chosen, IsOpen, after_schedule, after_hold, after_drop, after_date, after_play, Dark, Answers, unknown, late, past, no_number, too_late, no_place, full, late_collect, past_collect, plays, too_early, empty, is_dark, is_lit_lamp, HistoryOf, end, call}
 use Rattle.enforcement.proofs.Slots.{actions_length}
 use Rattle.enforcement.proofs.Corrections.{best_same}
 

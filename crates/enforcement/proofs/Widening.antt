@@ -1,21 +1,23 @@
 -- A larger largest bound changes nothing on sheets that load with a smaller one.
 -- Assumes nothing.
 use mathlib.Core.Path.{◌≡◌, refl, ap, sym, ◌∙◌}
-use mathlib.Core.Bool.{Bool, true, false}
+use mathlib.Core.Bool.{true}
 use mathlib.Core.List.{List}
 use mathlib.Core.Option.{Option, some}
 use Prim.Native.Nat.{ℕ, ◌≤◌}
 use native.Mathlib.Omega.{arith}
 use Rattle.enforcement.specs.Limits.{max_bound}
 use Rattle.enforcement.specs.Automaton.{Bytes, automaton, transitions, transitions_over, all_transitions}
-use Rattle.enforcement.specs.Reason.{Reason, i_1, i_2, i_3, i_4, i_5, i_6, i_7, i_8, s_1, s_2, s_3, s_4, s_5}
-use Rattle.enforcement.specs.Loading.{HoldsUpTo, LoadsUpTo, Checked, refused, size_passes, header_passes, initial_passes, pairs_pass, layout_passes, fits_up_to, all_fit_up_to, overlap, overlaps_none, disjoint, disjoint_over, unless, check_up_to}
+use Rattle.enforcement.specs.Reason.{Reason, i_1, i_2, i_3, i_4, i_5}
+use Rattle.enforcement.specs.Loading.{LoadsUpTo, Checked, refused, size_passes, header_passes, initial_passes, pairs_pass, layout_passes, fits_up_to, all_fit_up_to, overlap, overlaps_none, disjoint, disjoint_over, check_up_to}
 use Rattle.enforcement.specs.History.{History, fresh, Call, Outcome}
 use Rattle.enforcement.specs.Widening.{scope_bound, ToldUpTo, refuses, loads, Kept, AsBefore, CaseMoved}
 use Rattle.enforcement.proofs.Tests.{test_true}
 use Rattle.enforcement.proofs.Fitting.{all_fit_tests, all_fit_wider}
-use Rattle.enforcement.proofs.Loading.{answers_differ, check_right_up_to}
+use Rattle.enforcement.proofs.Reasons.{answers_differ}
+use Rattle.enforcement.proofs.Loading.{check_right_up_to}
 use Rattle.enforcement.proofs.Uniqueness.{one_history}
+use Rattle.enforcement.proofs.Staying.{stays_behind, stays_passed, loads_wider}
 
 -- One thing is told, and nothing else.
 pub told_once : (b : ℕ) (s : Bytes) (d : ℕ) (ks : List Call) {a a' : Checked} {os os' : List Outcome} {h h' : Option History} → ToldUpTo b s d ks a os h → ToldUpTo b s d ks a' os' h' → (a ≡ a') × (os ≡ os') × (h ≡ h')
@@ -29,33 +31,7 @@ told_with : (b c : ℕ) (s : Bytes) (d : ℕ) (ks : List Call) {a : Checked} {os
 told_with b c s d ks e (refuses f) = refuses (e ∙ f)
 told_with b c s d ks e (loads f r) = loads (e ∙ f) r
 
--- Where an answer that is not I-5 stays, it stays behind a test that reads no largest bound.
-stays_behind : (x : Bool) (r : Reason) (k l : Checked) → ((k ≡ refused i_5 → ⊥) → l ≡ k) → (unless x r k ≡ refused i_5 → ⊥) → unless x r l ≡ unless x r k
-stays_behind true r k l f g = f g
-stays_behind false r k l f g = refl
-
--- The test of I-5, which passes more.
-stays_passed : (x y : Bool) (k : Checked) → (x ≡ true → y ≡ true) → (unless x i_5 k ≡ refused i_5 → ⊥) → unless y i_5 k ≡ unless x i_5 k
-stays_passed true y k f g = ap (λ (z : Bool). unless z i_5 k) (f refl)
-stays_passed false y k f g = absurd (g refl)
-
 module _ (b c : ℕ) (wider : b ≤ c) (s : Bytes) (d : ℕ) where
-  loads_wider : LoadsUpTo b s d → LoadsUpTo c s d
-  unfolding HoldsUpTo
-  loads_wider h i_1 = h i_1
-  loads_wider h i_2 = h i_2
-  loads_wider h i_3 = h i_3
-  loads_wider h i_4 = h i_4
-  loads_wider h i_5 = λ k. h i_5 (λ f. k (all_fit_wider wider s (all_transitions s) f))
-  loads_wider h i_6 = h i_6
-  loads_wider h i_7 = h i_7
-  loads_wider h i_8 = h i_8
-  loads_wider h s_1 = h s_1
-  loads_wider h s_2 = h s_2
-  loads_wider h s_3 = h s_3
-  loads_wider h s_4 = h s_4
-  loads_wider h s_5 = h s_5
-
   test_wider : all_fit_up_to b s (all_transitions s) ≡ true → all_fit_up_to c s (all_transitions s) ≡ true
   test_wider e = test_true (all_fit_tests c s (all_transitions s)) (all_fit_wider wider s (all_transitions s) ((all_fit_tests b s (all_transitions s)).passes e))
 
@@ -70,7 +46,7 @@ module _ (b c : ℕ) (wider : b ≤ c) (s : Bytes) (d : ℕ) where
 
   pub kept : Kept b c s d
   kept = record {
-    still_loads = loads_wider;
+    still_loads = loads_wider b c wider s d;
     answer_same = answer_same;
     told_same = λ n ks a os h. (told_with c b s d ks (sym (answer_same n)), told_with b c s d ks (answer_same n));
   }

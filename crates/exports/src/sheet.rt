@@ -12,7 +12,7 @@ use retimer::sheet;
 use retimer::sheet::Checked;
 
 // The number that a sheet's own refusal is handed out as.
-pub fn reason_result(r: Reason) -> i32
+fn reason_result(r: Reason) -> i32
     ensures { result ≡ reason_result (reason_of r) }
 {
     match r {

@@ -3,6 +3,7 @@ ghost use Rattle.std.specs.Prelude.{◌≡◌, ◌+◌, ◌≤◌, length};
 
 use crate::ask::ask_front;
 use drafting::script;
+use std::io;
 
 // The largest sheet and a rule more.
 const ROOM: usize = 525;
@@ -35,22 +36,28 @@ fn put_transitions(sheet: &mut [u8])
 
 // 518 bytes: 16 locations, two clocks, 16 commands, all locations accepting, and 64 rules (448 bytes) of location 0. Command 0 stays in location 0; command 5
 // leads to location 5, which has no rules.
-fn largest() {
+fn largest(rt: &impl Print) -> io::Result<()> {
     let header =
         b"16 2 16 0 255 255, 70 0 192 1, 6 2 0 0, 6 2 0 0, 6 2 0 0, 6 2 0 0, 6 2 0 0, 6 2 0 0, 6 2 0 0, 6 2 0 0, 6 2 0 0, 6 2 0 0, 6 2 0 0, 6 2 0 0, 6 2 0 0, 6 2 0 0, 6 2 0 0";
     let mut sheet = [0u8; ROOM];
     script::bytes_of(header, &mut sheet);
     put_transitions(&mut sheet);
-    ask_front(b"The largest sheet", &sheet, 518, b"0 at 0, 5 at 7, 0 at 7");
-    ask_front(b"A byte more", &sheet, 519, b"");
+    ask_front(
+        rt,
+        b"The largest sheet",
+        &sheet,
+        518,
+        b"0 at 0, 5 at 7, 0 at 7",
+    )?;
+    ask_front(rt, b"A byte more", &sheet, 519, b"")
 }
 
 // 65 rules are too many, whatever they say. 64 rules of zeros are in range, with two clocks, and overlap.
-pub fn all() {
-    largest();
+pub fn all(rt: &impl Print) -> io::Result<()> {
+    largest(rt)?;
     let mut sheet = [0u8; ROOM];
     script::bytes_of(b"1 1 1 0 1 0, 10 0 199 1", &mut sheet);
-    ask_front(b"Sixty-five rules", &sheet, 465, b"");
+    ask_front(rt, b"Sixty-five rules", &sheet, 465, b"")?;
     script::bytes_of(b"1 2 1 0 1 0, 10 0 192 1", &mut sheet);
-    ask_front(b"Sixty-four rules alike", &sheet, 458, b"");
+    ask_front(rt, b"Sixty-four rules alike", &sheet, 458, b"")
 }

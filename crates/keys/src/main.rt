@@ -1,5 +1,7 @@
 // Runs the keys of document 01 and edge cases. Each question prints its title and then the desk program's lines. What is expected of it stands in the
 // file `stdout`, written from document 01; the comment above each question says why.
+#![tactic(auto)]
+
 mod ask;
 mod calls;
 mod document;
@@ -9,29 +11,31 @@ mod loading;
 mod sheets;
 mod tails;
 
-fn main() {
-    document::proved();
-    document::full();
-    document::bounds();
-    document::no_calls();
-    calls::input();
-    calls::date();
-    calls::late();
-    calls::room();
-    calls::numbers();
-    calls::collections();
-    sheets::size();
-    sheets::start();
-    sheets::layout();
-    sheets::fields();
-    sheets::guards();
-    sheets::overlaps();
-    edges::one_clock();
-    edges::resets();
-    edges::batches();
-    edges::decisions();
-    loading::midday();
-    loading::limit();
-    largest::all();
-    tails::all();
+use std::io;
+
+fn main(rt: HostRuntime) -> io::Result<()> {
+    document::proved(&rt)?;
+    document::full(&rt)?;
+    document::bounds(&rt)?;
+    document::no_calls(&rt)?;
+    calls::input(&rt)?;
+    calls::date(&rt)?;
+    calls::late(&rt)?;
+    calls::room(&rt)?;
+    calls::numbers(&rt)?;
+    calls::collections(&rt)?;
+    sheets::size(&rt)?;
+    sheets::start(&rt)?;
+    sheets::layout(&rt)?;
+    sheets::fields(&rt)?;
+    sheets::guards(&rt)?;
+    sheets::overlaps(&rt)?;
+    edges::one_clock(&rt)?;
+    edges::resets(&rt)?;
+    edges::batches(&rt)?;
+    edges::decisions(&rt)?;
+    loading::midday(&rt)?;
+    loading::limit(&rt)?;
+    largest::all(&rt)?;
+    tails::all(&rt)
 }

@@ -4,21 +4,22 @@ ghost use Rattle.retimer.specs.Readings.{Readings};
 use crate::print;
 use retimer::clocks;
 use retimer::limits::Monitor;
+use std::io;
 
 // Two readings before and after a wait.
-fn wait(x: u8, y: u8, n: u32) {
+fn wait(rt: &impl Print, x: u8, y: u8, n: u32) -> io::Result<()> {
     if Monitor::TOP < x || Monitor::TOP < y {
-        return;
+        return Ok(());
     }
     let r = clocks::wait_many([x, y], n);
-    print::word(b"wait");
-    print::byte(x);
-    print::byte(y);
-    print::date(n);
-    print::word(b":");
-    print::byte(r[0]);
-    print::byte(r[1]);
-    print::word(b"\n");
+    print::word(rt, b"wait")?;
+    print::byte(rt, x)?;
+    print::byte(rt, y)?;
+    print::date(rt, n)?;
+    print::word(rt, b":")?;
+    print::byte(rt, r[0])?;
+    print::byte(rt, r[1])?;
+    print::word(rt, b"\n")
 }
 
 // The readings after ticks one by one from zero.
@@ -35,93 +36,93 @@ fn after_ticks(n: u32) -> [u8; 2]
     r
 }
 
-fn ticks(n: u32) {
+fn ticks(rt: &impl Print, n: u32) -> io::Result<()> {
     let r = after_ticks(n);
-    print::word(b"ticks");
-    print::date(n);
-    print::word(b":");
-    print::byte(r[0]);
-    print::byte(r[1]);
-    print::word(b"\n");
+    print::word(rt, b"ticks")?;
+    print::date(rt, n)?;
+    print::word(rt, b":")?;
+    print::byte(rt, r[0])?;
+    print::byte(rt, r[1])?;
+    print::word(rt, b"\n")
 }
 
 // Readings up to the largest bound, 40, are exact; 41 stands for every one above it.
-pub fn waits() {
-    wait(0, 5, 0);
-    wait(0, 5, 1);
-    wait(0, 5, 30);
-    wait(0, 5, 31);
-    wait(0, 5, 35);
-    wait(0, 5, 36);
-    wait(0, 5, 40);
-    wait(0, 5, 41);
-    wait(0, 5, 1_000_000);
-    wait(0, 5, 4_294_967_295);
-    wait(30, 31, 0);
-    wait(30, 31, 1);
-    wait(31, 0, 1);
-    wait(40, 41, 0);
-    wait(40, 41, 1);
-    wait(41, 0, 1);
-    ticks(0);
-    ticks(31);
-    ticks(40);
-    ticks(41);
-    ticks(42);
+pub fn waits(rt: &impl Print) -> io::Result<()> {
+    wait(rt, 0, 5, 0)?;
+    wait(rt, 0, 5, 1)?;
+    wait(rt, 0, 5, 30)?;
+    wait(rt, 0, 5, 31)?;
+    wait(rt, 0, 5, 35)?;
+    wait(rt, 0, 5, 36)?;
+    wait(rt, 0, 5, 40)?;
+    wait(rt, 0, 5, 41)?;
+    wait(rt, 0, 5, 1_000_000)?;
+    wait(rt, 0, 5, 4_294_967_295)?;
+    wait(rt, 30, 31, 0)?;
+    wait(rt, 30, 31, 1)?;
+    wait(rt, 31, 0, 1)?;
+    wait(rt, 40, 41, 0)?;
+    wait(rt, 40, 41, 1)?;
+    wait(rt, 41, 0, 1)?;
+    ticks(rt, 0)?;
+    ticks(rt, 31)?;
+    ticks(rt, 40)?;
+    ticks(rt, 41)?;
+    ticks(rt, 42)
 }
 
-fn reset(set: u8) {
+fn reset(rt: &impl Print, set: u8) -> io::Result<()> {
     let r = clocks::reset([7, 9], set);
-    print::word(b"reset");
-    print::byte(set);
-    print::word(b":");
-    print::byte(r[0]);
-    print::byte(r[1]);
-    print::word(b"\n");
+    print::word(rt, b"reset")?;
+    print::byte(rt, set)?;
+    print::word(rt, b":")?;
+    print::byte(rt, r[0])?;
+    print::byte(rt, r[1])?;
+    print::word(rt, b"\n")
 }
 
 // Of the readings 7 and 9: bit 0 is clock 1, bit 1 clock 2.
-pub fn resets() {
-    reset(0);
-    reset(1);
-    reset(2);
-    reset(3);
+pub fn resets(rt: &impl Print) -> io::Result<()> {
+    reset(rt, 0)?;
+    reset(rt, 1)?;
+    reset(rt, 2)?;
+    reset(rt, 3)
 }
 
-fn within(low: u8, high: u8, x: u8) {
-    print::word(b"within");
-    print::configuration(low, high, x);
-    print::truth(clocks::within(low, high, x));
+fn within(rt: &impl Print, low: u8, high: u8, x: u8) -> io::Result<()> {
+    print::word(rt, b"within")?;
+    print::configuration(rt, low, high, x)?;
+    print::truth(rt, clocks::within(low, high, x))
 }
 
 // Readings around both ends of the bounds, 0, the largest bound, the one after it, and 255.
-fn ends(low: u8, high: u8) {
+fn ends(rt: &impl Print, low: u8, high: u8) -> io::Result<()> {
     if 0 < low {
-        within(low, high, low - 1);
+        within(rt, low, high, low - 1)?;
     }
-    within(low, high, low);
-    within(low, high, high);
+    within(rt, low, high, low)?;
+    within(rt, low, high, high)?;
     if high < 255 {
-        within(low, high, high + 1);
+        within(rt, low, high, high + 1)?;
     }
-    within(low, high, 0);
-    within(low, high, Monitor::BOUND);
-    within(low, high, Monitor::TOP);
-    within(low, high, 255);
+    within(rt, low, high, 0)?;
+    within(rt, low, high, Monitor::BOUND)?;
+    within(rt, low, high, Monitor::TOP)?;
+    within(rt, low, high, 255)
 }
 
 // Both ends are included; 255 is no upper bound. Three of each case; the last of each is of bounds that no load accepts.
-pub fn bounds() {
-    ends(0, 255);
-    ends(Monitor::BOUND, 255);
-    ends(255, 255);
-    ends(0, 0);
-    ends(Monitor::BOUND, Monitor::BOUND);
-    ends(254, 254);
-    ends(0, 10);
-    ends(0, Monitor::BOUND);
-    ends(0, 254);
-    ends(5, 10);
-    ends(1, Monitor::BOUND);
-    ends(10, 5);
+pub fn bounds(rt: &impl Print) -> io::Result<()> {
+    ends(rt, 0, 255)?;
+    ends(rt, Monitor::BOUND, 255)?;
+    ends(rt, 255, 255)?;
+    ends(rt, 0, 0)?;
+    ends(rt, Monitor::BOUND, Monitor::BOUND)?;
+    ends(rt, 254, 254)?;
+    ends(rt, 0, 10)?;
+    ends(rt, 0, Monitor::BOUND)?;
+    ends(rt, 0, 254)?;
+    ends(rt, 5, 10)?;
+    ends(rt, 1, Monitor::BOUND)?;
+    ends(rt, 10, 5)
 }

@@ -3,98 +3,99 @@ use crate::print;
 use retimer::comparison;
 use retimer::comparison::Comparison;
 use retimer::limits::Monitor;
+use std::io;
 
 // The case that bounds fall in.
-fn case(low: u8, high: u8) {
-    print::word(b"case");
-    print::byte(low);
-    print::byte(high);
+fn case(rt: &impl Print, low: u8, high: u8) -> io::Result<()> {
+    print::word(rt, b"case")?;
+    print::byte(rt, low)?;
+    print::byte(rt, high)?;
     let c = comparison::of(low, high);
     match c {
-        Comparison::AtLeast => print::word(b": at least\n"),
-        Comparison::Exactly => print::word(b": exactly\n"),
-        Comparison::AtMost => print::word(b": at most\n"),
-        Comparison::Between => print::word(b": between\n"),
+        Comparison::AtLeast => print::word(rt, b": at least\n"),
+        Comparison::Exactly => print::word(rt, b": exactly\n"),
+        Comparison::AtMost => print::word(rt, b": at most\n"),
+        Comparison::Between => print::word(rt, b": between\n"),
     }
 }
 
 // No upper bound, low equal to high, low zero, and the rest; where several fit, the first. Then bounds that no load accepts.
-pub fn cases() {
-    case(0, 255);
-    case(5, 255);
-    case(Monitor::BOUND, 255);
-    case(0, 0);
-    case(5, 5);
-    case(Monitor::BOUND, Monitor::BOUND);
-    case(0, 1);
-    case(0, Monitor::BOUND);
-    case(1, 2);
-    case(5, 10);
-    case(1, Monitor::BOUND);
-    case(255, 255);
-    case(254, 254);
-    case(0, 254);
-    case(254, 0);
-    case(10, 5);
-    case(Monitor::TOP, 254);
+pub fn cases(rt: &impl Print) -> io::Result<()> {
+    case(rt, 0, 255)?;
+    case(rt, 5, 255)?;
+    case(rt, Monitor::BOUND, 255)?;
+    case(rt, 0, 0)?;
+    case(rt, 5, 5)?;
+    case(rt, Monitor::BOUND, Monitor::BOUND)?;
+    case(rt, 0, 1)?;
+    case(rt, 0, Monitor::BOUND)?;
+    case(rt, 1, 2)?;
+    case(rt, 5, 10)?;
+    case(rt, 1, Monitor::BOUND)?;
+    case(rt, 255, 255)?;
+    case(rt, 254, 254)?;
+    case(rt, 0, 254)?;
+    case(rt, 254, 0)?;
+    case(rt, 10, 5)?;
+    case(rt, Monitor::TOP, 254)
 }
 
-fn at_least(low: u8, x: u8) {
-    print::word(b"at least");
-    print::byte(low);
-    print::byte(x);
-    print::truth(comparison::at_least(low, x));
+fn at_least(rt: &impl Print, low: u8, x: u8) -> io::Result<()> {
+    print::word(rt, b"at least")?;
+    print::byte(rt, low)?;
+    print::byte(rt, x)?;
+    print::truth(rt, comparison::at_least(low, x))
 }
 
-fn exactly(low: u8, x: u8) {
-    print::word(b"exactly");
-    print::byte(low);
-    print::byte(x);
-    print::truth(comparison::exactly(low, x));
+fn exactly(rt: &impl Print, low: u8, x: u8) -> io::Result<()> {
+    print::word(rt, b"exactly")?;
+    print::byte(rt, low)?;
+    print::byte(rt, x)?;
+    print::truth(rt, comparison::exactly(low, x))
 }
 
-fn at_most(high: u8, x: u8) {
-    print::word(b"at most");
-    print::byte(high);
-    print::byte(x);
-    print::truth(comparison::at_most(high, x));
+fn at_most(rt: &impl Print, high: u8, x: u8) -> io::Result<()> {
+    print::word(rt, b"at most")?;
+    print::byte(rt, high)?;
+    print::byte(rt, x)?;
+    print::truth(rt, comparison::at_most(high, x))
 }
 
-fn between(low: u8, high: u8, x: u8) {
-    print::word(b"between");
-    print::configuration(low, high, x);
-    print::truth(comparison::between(low, high, x));
+fn between(rt: &impl Print, low: u8, high: u8, x: u8) -> io::Result<()> {
+    print::word(rt, b"between")?;
+    print::configuration(rt, low, high, x)?;
+    print::truth(rt, comparison::between(low, high, x))
 }
 
 // One below the end, the end, and one above it.
-pub fn ends() {
-    at_least(5, 4);
-    at_least(5, 5);
-    at_least(5, 6);
-    exactly(5, 4);
-    exactly(5, 5);
-    exactly(5, 6);
-    at_most(5, 4);
-    at_most(5, 5);
-    at_most(5, 6);
-    between(5, 7, 4);
-    between(5, 7, 5);
-    between(5, 7, 6);
-    between(5, 7, 7);
-    between(5, 7, 8);
+pub fn ends(rt: &impl Print) -> io::Result<()> {
+    at_least(rt, 5, 4)?;
+    at_least(rt, 5, 5)?;
+    at_least(rt, 5, 6)?;
+    exactly(rt, 5, 4)?;
+    exactly(rt, 5, 5)?;
+    exactly(rt, 5, 6)?;
+    at_most(rt, 5, 4)?;
+    at_most(rt, 5, 5)?;
+    at_most(rt, 5, 6)?;
+    between(rt, 5, 7, 4)?;
+    between(rt, 5, 7, 5)?;
+    between(rt, 5, 7, 6)?;
+    between(rt, 5, 7, 7)?;
+    between(rt, 5, 7, 8)
 }
 
 // Of the largest bound, the readings 0, that bound, the one after it, and 255.
-fn each(x: u8) {
-    at_least(Monitor::BOUND, x);
-    exactly(Monitor::BOUND, x);
-    at_most(Monitor::BOUND, x);
-    between(1, Monitor::BOUND, x);
+fn each(rt: &impl Print, x: u8) -> io::Result<()> {
+    at_least(rt, Monitor::BOUND, x)?;
+    exactly(rt, Monitor::BOUND, x)?;
+    at_most(rt, Monitor::BOUND, x)?;
+    between(rt, 1, Monitor::BOUND, x)
 }
 
-pub fn readings() {
-    each(0);
-    each(Monitor::BOUND);
-    each(Monitor::TOP);
-    each(255);
+pub fn readings(rt: &impl Print) -> io::Result<()> {
+    each(rt, 0)?;
+    each(rt, Monitor::BOUND)?;
+    each(rt, Monitor::TOP)?;
+    each(rt, 255)
 }

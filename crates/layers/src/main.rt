@@ -1,4 +1,6 @@
 // Runs each layer of the retimer on the course sheets and at the edges. What is expected stands in the file `stdout`, written from document 01.
+#![tactic(auto)]
+
 mod calls;
 mod clocks;
 mod comparison;
@@ -13,30 +15,32 @@ mod print;
 mod replay;
 mod sheets;
 
-fn main() {
-    limits::all();
-    clocks::waits();
-    clocks::resets();
-    comparison::cases();
-    comparison::ends();
-    comparison::readings();
-    clocks::bounds();
-    sheets::course();
-    sheets::fronts();
-    sheets::dates();
-    lookup::one_clock();
-    lookup::two_clocks();
-    liveness::one_clock();
-    liveness::two_clocks();
-    optimum::one_clock();
-    optimum::two_clocks();
-    outlook::single();
-    outlook::lists();
-    outlook::two_clocks();
-    lamp::all();
-    replay::keys();
-    replay::edges();
-    replay::numbers();
-    replay::dates();
-    calls::all();
+use std::io;
+
+fn main(rt: HostRuntime) -> io::Result<()> {
+    limits::all(&rt)?;
+    clocks::waits(&rt)?;
+    clocks::resets(&rt)?;
+    comparison::cases(&rt)?;
+    comparison::ends(&rt)?;
+    comparison::readings(&rt)?;
+    clocks::bounds(&rt)?;
+    sheets::course(&rt)?;
+    sheets::fronts(&rt)?;
+    sheets::dates(&rt)?;
+    lookup::one_clock(&rt)?;
+    lookup::two_clocks(&rt)?;
+    liveness::one_clock(&rt)?;
+    liveness::two_clocks(&rt)?;
+    optimum::one_clock(&rt)?;
+    optimum::two_clocks(&rt)?;
+    outlook::single(&rt)?;
+    outlook::lists(&rt)?;
+    outlook::two_clocks(&rt)?;
+    lamp::all(&rt)?;
+    replay::keys(&rt)?;
+    replay::edges(&rt)?;
+    replay::numbers(&rt)?;
+    replay::dates(&rt)?;
+    calls::all(&rt)
 }

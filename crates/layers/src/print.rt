@@ -1,45 +1,42 @@
 // Words and numbers on standard output.
-use libc::STDOUT_FILENO;
+use std::io;
 
-pub fn word(text: &[u8]) {
-    io::write_all(STDOUT_FILENO, text);
+pub fn word(rt: &impl Print, text: &[u8]) -> io::Result<()> {
+    rt.write_all(text)
 }
 
 // A blank and a number.
-pub fn number(n: u64) {
-    io::write_all(STDOUT_FILENO, b" ");
-    io::print_decimal(STDOUT_FILENO, n);
+pub fn number(rt: &impl Print, n: u64) -> io::Result<()> {
+    print!(rt; " {n}")
 }
 
-pub fn date(t: u32) {
-    number(t as u64);
+pub fn date(rt: &impl Print, t: u32) -> io::Result<()> {
+    number(rt, t as u64)
 }
 
-pub fn byte(n: u8) {
-    number(n as u64);
+pub fn byte(rt: &impl Print, n: u8) -> io::Result<()> {
+    number(rt, n as u64)
 }
 
 // A location, or another number, and two readings.
-pub fn configuration(l: u8, x: u8, y: u8) {
-    byte(l);
-    byte(x);
-    byte(y);
+pub fn configuration(rt: &impl Print, l: u8, x: u8, y: u8) -> io::Result<()> {
+    byte(rt, l)?;
+    byte(rt, x)?;
+    byte(rt, y)
 }
 
 // That a list is dead, and the lamp without its last command.
-pub fn dead(lit: bool) {
+pub fn dead(rt: &impl Print, lit: bool) -> io::Result<()> {
     if lit {
-        word(b"dead, lit\n");
-        return;
+        return word(rt, b"dead, lit\n");
     }
-    word(b"dead, dark\n");
+    word(rt, b"dead, dark\n")
 }
 
 // A truth value as 1 or 0, and the line's end.
-pub fn truth(b: bool) {
+pub fn truth(rt: &impl Print, b: bool) -> io::Result<()> {
     if b {
-        word(b": 1\n");
-        return;
+        return word(rt, b": 1\n");
     }
-    word(b": 0\n");
+    word(rt, b": 0\n")
 }

@@ -19,17 +19,17 @@ and_false true = refl
 and_false false = refl
 
 module _ (n m : ℕ) (ds : List ℕ) where
-  pub not-whole : (n % 5 ≡ 0 → ⊥) → check n m ds ≡ refused i_9
+  pub not_whole : (n % 5 ≡ 0 → ⊥) → check n m ds ≡ refused i_9
   unfolding check
-  not-whole h = ap (λ (b : Bool). unless (b && eqb m n) i_9 (check_from 0 0 ds)) (ne_eqb (n % 5) 0 h)
+  not_whole h = ap (λ (b : Bool). unless (b && eqb m n) i_9 (check_from 0 0 ds)) (ne_eqb (n % 5) 0 h)
 
-  pub not-sized : (m ≡ n → ⊥) → check n m ds ≡ refused i_9
+  pub not_sized : (m ≡ n → ⊥) → check n m ds ≡ refused i_9
   unfolding check
-  not-sized h = ap (λ (b : Bool). unless (eqb (n % 5) 0 && b) i_9 (check_from 0 0 ds)) (ne_eqb m n h) ∙ ap (λ (b : Bool). unless b i_9 (check_from 0 0 ds)) (and_false (eqb (n % 5) 0))
+  not_sized h = ap (λ (b : Bool). unless (eqb (n % 5) 0 && b) i_9 (check_from 0 0 ds)) (ne_eqb m n h) ∙ ap (λ (b : Bool). unless b i_9 (check_from 0 0 ds)) (and_false (eqb (n % 5) 0))
 
-  pub by-records : n % 5 ≡ 0 → m ≡ n → check n m ds ≡ check_from 0 0 ds
+  pub by_records : n % 5 ≡ 0 → m ≡ n → check n m ds ≡ check_from 0 0 ds
   unfolding check
-  by-records p q = ap (λ (b : Bool). unless (b && eqb m n) i_9 (check_from 0 0 ds)) (eq-eqb (n % 5) 0 p) ∙ ap (λ (b : Bool). unless b i_9 (check_from 0 0 ds)) (eq-eqb m n q)
+  by_records p q = ap (λ (b : Bool). unless (b && eqb m n) i_9 (check_from 0 0 ds)) (eq-eqb (n % 5) 0 p) ∙ ap (λ (b : Bool). unless b i_9 (check_from 0 0 ds)) (eq-eqb m n q)
 
 -- What is known of a log that is converted.
 pub record Accepted (n m : ℕ) (ds : List ℕ) : Type 0 where

@@ -9,7 +9,7 @@ use Rattle.enforcement.specs.Automaton.{Bytes}
 use Rattle.logs.specs.declared.format.Format.{Format}
 use Rattle.logs.specs.Log.{records_of}
 use Rattle.logs.specs.Conversion.{i_9, i_10, i_11, Holds, Outcome, converted, refused, check_from, check, dates_in, faultless, sound_of, CheckRight, SoundRight}
-use Rattle.logs.proofs.Answers.{by-records}
+use Rattle.logs.proofs.Answers.{by_records}
 use Rattle.logs.proofs.Records.{length_records}
 use Rattle.logs.proofs.Refusals.{check_right}
 use Rattle.logs.proofs.Words.{length_dates}
@@ -37,4 +37,4 @@ module _ (f : Format) (s : Bytes) where
       record { within = omega (arith, as_many, g.holds.0); none_late = λ k l x. g.none_earlier (i_10 k) (omega arith) x; none_falling = λ k l x. g.none_earlier (i_11 k) (omega arith) x; faulty = λ l. inr g.holds }
 
   pub sound_right : SoundRight f s (sound_of f s)
-  sound_right = by_outcome (check_from 0 0 (dates_in f s)) (by-records 0 0 (dates_in f s) refl refl)
+  sound_right = by_outcome (check_from 0 0 (dates_in f s)) (by_records 0 0 (dates_in f s) refl refl)

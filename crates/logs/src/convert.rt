@@ -11,7 +11,7 @@ use retimer::limits::Monitor;
 const LAST: u64 = Monitor::LATEST as u64;
 
 // What a conversion answers. A refusal for a record has its place, from 0.
-#[derive(Drop)]
+#[derive(Clone, Copy)]
 pub enum Answer {
     Converted,
     // I-9: a length that is no multiple of 5, or an output of another length.

@@ -3,7 +3,7 @@ ghost use Rattle.std.specs.Prelude.{◌≡◌};
 ghost use Rattle.logs.specs.Log as log;
 
 // By dates, or by gaps: the ticks since the action before.
-#[derive(Drop)]
+#[derive(Clone, Copy)]
 pub enum Format {
     Dates,
     Gaps,

@@ -1,4 +1,5 @@
 // Logs of actions in dates and in gaps, and the conversion of one to the other.
+#![tactic(auto)]
 
 // How a log tells when its actions are.
 pub mod format;

@@ -5,7 +5,7 @@ ghost use Rattle.logs.specs.Log.{record_at, record_bytes};
 use retimer::bytes;
 
 // An action, with its date or its gap.
-#[derive(Drop)]
+#[derive(Clone, Copy)]
 pub struct Record {
     pub ticks: u32,
     pub action: u8,

@@ -25,14 +25,11 @@ use Rattle.retimer.specs.declared.limits.State.{State}
 use Rattle.retimer.specs.declared.limits.Monitor.{Monitor}
 use Rattle.retimer.specs.declared.state.Answer.{Answer}
 use Rattle.retimer.specs.declared.state.Answer.TheVariants.{Scheduled, Held, Dropped, Played, Nothing, Lit, Dark, Refused}
-use Rattle.retimer.specs.declared.head.Step.{Step}
-use Rattle.retimer.specs.Situation.{Moved, Lent, lent_of, situation, joined_of}
-use Rattle.retimer.specs.View.{bytes_of, view, view_of, HeadValid, Sound, Valid}
-use Rattle.retimer.specs.Calls.{outcome_of, moved_of, with_state, StepRight}
-use Rattle.retimer.specs.Heads.{moved_by}
+use Rattle.retimer.specs.declared.state.Moved.{Moved}
+use Rattle.retimer.specs.View.{bytes_of, view, view_of, StateValid, Sound, Valid}
+use Rattle.retimer.specs.Calls.{outcome_of, moved_of, with_state, MoveRight}
 use Rattle.retimer.specs.Replay.{call_at, calls_from, calls_of}
-use Rattle.retimer.proofs.CallLaws.{view_lit}
-use Rattle.retimer.proofs.BoxLaws.{valid_head, valid_box}
+use Rattle.retimer.proofs.CallLaws.{view_lit, valid_state, valid_box}
 use Rattle.marking.specs.Marks.{line_of, lines_of, MarkRight}
 
 -- ---- One line
@@ -86,9 +83,9 @@ pub record Marking (start : Monitor) (s : Bytes) (n : ℕ) (before out : List �
   pub text : List ℕ
   pub wrote : Wrote before 0 text out end
   pub few : end ≤ 120 * done
-  pub lines : text ++ lines_of (compile (bytes_of start)) (view (situation q)) made (calls_from s (length s / 5 - done) i) ≡ lines_of (compile (bytes_of start)) (view_of start) n (calls_of s)
-  pub monitor : (replay (compile (bytes_of start)) (view (situation q)) (calls_from s (length s / 5 - done) i)).monitor ≡ (replay (compile (bytes_of start)) (view_of start) (calls_of s)).monitor
-  pub valid : HeadValid (bytes_of start) start.live q.head (lent_of q)
+  pub lines : text ++ lines_of (compile (bytes_of start)) (view q) made (calls_from s (length s / 5 - done) i) ≡ lines_of (compile (bytes_of start)) (view_of start) n (calls_of s)
+  pub monitor : (replay (compile (bytes_of start)) (view q) (calls_from s (length s / 5 - done) i)).monitor ≡ (replay (compile (bytes_of start)) (view_of start) (calls_of s)).monitor
+  pub valid : StateValid (bytes_of start) start.live q
   pub sized : length out ≡ length before
 
 none_done : (x : ℕ) → x - 0 ≡ x
@@ -105,7 +102,7 @@ begins start s n x v = record {
   few = omega arith;
   lines = ap (λ (k : ℕ). lines_of (compile (bytes_of start)) (view_of start) n (calls_from s k 0)) (none_done (length s / 5));
   monitor = ap (λ (k : ℕ). (replay (compile (bytes_of start)) (view_of start) (calls_from s k 0)).monitor) (none_done (length s / 5));
-  valid = valid_head v;
+  valid = valid_state v;
   sized = refl;
 }
 
@@ -135,37 +132,34 @@ module _ {start : Monitor} {s : Bytes} {n : ℕ} {before out : List ℕ} {q : St
   unfolding calls_from k
   unrolled = ap (λ (j : ℕ). calls_from s j i) left
 
-  module _ {c : Step} {l : Lent} (right : StepRight (bytes_of start) start.live q.head (lent_of q) (call_at s i) l c) where
-    abbrev r : Moved
-    r = moved_by c l
-
-    is : moved_of r ≡ answer m (view (situation q)) k
+  module _ {r : Moved} (right : MoveRight (bytes_of start) start.live q (call_at s i) r) where
+    is : moved_of r ≡ answer m (view q) k
     unfolding m k
     is = right.is
 
-    view_is : view r.state ≡ (answer m (view (situation q)) k).monitor
+    view_is : view r.state ≡ (answer m (view q) k).monitor
     view_is = ap (λ (w : model.Answered). w.monitor) is
 
     line : List ℕ
     line = call_line (made + 1) (answer_text r.answer) r.state.lit
 
-    lines_split : lines_of m (view (situation q)) made (calls_from s (length s / 5 - g.done) i) ≡ line ++ lines_of m (view r.state) (made + 1) (calls_from s (length s / 5 - (g.done + 1)) (i + 5))
+    lines_split : lines_of m (view q) made (calls_from s (length s / 5 - g.done) i) ≡ line ++ lines_of m (view r.state) (made + 1) (calls_from s (length s / 5 - (g.done + 1)) (i + 5))
     unfolding lines_of line
     lines_split =
-        ap (lines_of m (view (situation q)) made) unrolled
-        ∙ ap (λ (t : List ℕ). t ++ lines_of m (answer m (view (situation q)) k).monitor (suc made) (calls_from s (length s / 5 - (g.done + 1)) (i + 5))) (sym (line_is m (view (situation q)) k r made is right.held_count))
+        ap (lines_of m (view q) made) unrolled
+        ∙ ap (λ (t : List ℕ). t ++ lines_of m (answer m (view q) k).monitor (suc made) (calls_from s (length s / 5 - (g.done + 1)) (i + 5))) (sym (line_is m (view q) k r made is right.held_count))
         ∙ ap (λ (v : model.Monitor). line ++ lines_of m v (suc made) (calls_from s (length s / 5 - (g.done + 1)) (i + 5))) (sym view_is)
         ∙ ap (λ (j : ℕ). line ++ lines_of m (view r.state) j (calls_from s (length s / 5 - (g.done + 1)) (i + 5))) (sym (add-one made))
 
-    monitor_split : (replay m (view (situation q)) (calls_from s (length s / 5 - g.done) i)).monitor ≡ (replay m (view r.state) (calls_from s (length s / 5 - (g.done + 1)) (i + 5))).monitor
+    monitor_split : (replay m (view q) (calls_from s (length s / 5 - g.done) i)).monitor ≡ (replay m (view r.state) (calls_from s (length s / 5 - (g.done + 1)) (i + 5))).monitor
     unfolding replay
     monitor_split =
-        ap (λ (ks : List Call). (replay m (view (situation q)) ks).monitor) unrolled
+        ap (λ (ks : List Call). (replay m (view q) ks).monitor) unrolled
         ∙ ap (λ (v : model.Monitor). (replay m v (calls_from s (length s / 5 - (g.done + 1)) (i + 5))).monitor) (sym view_is)
 
     pub goes_on : {out' : List ℕ} {end' : ℕ} → 120 * (length s / 5) + 120 ≤ length before
-        → Wrote out end (call_line (made + 1) (answer_text c.answer) c.head.lit) out' end' → length out' ≡ length out
-        → Marking start s n before out' (joined_of c.head l) (made + 1) end' (i + 5)
+        → Wrote out end (call_line (made + 1) (answer_text r.answer) r.state.lit) out' end' → length out' ≡ length out
+        → Marking start s n before out' r.state (made + 1) end' (i + 5)
     unfolding m line
     goes_on {out'} {end'} room wrote kept = record {
       done = g.done + 1;
@@ -194,11 +188,11 @@ module _ {start : Monitor} {s : Bytes} {n : ℕ} {before out : List ℕ} {q : St
 
   text_all : g.text ≡ lines_of (compile (bytes_of start)) (view_of start) n (calls_of s)
   unfolding lines_of calls_from
-  text_all = sym (append-nil g.text) ∙ ap (λ (j : ℕ). g.text ++ lines_of (compile (bytes_of start)) (view (situation q)) made (calls_from s j i)) (sym none_left) ∙ g.lines
+  text_all = sym (append-nil g.text) ∙ ap (λ (j : ℕ). g.text ++ lines_of (compile (bytes_of start)) (view q) made (calls_from s j i)) (sym none_left) ∙ g.lines
 
-  monitor_all : view (situation q) ≡ (replay (compile (bytes_of start)) (view_of start) (calls_of s)).monitor
+  monitor_all : view q ≡ (replay (compile (bytes_of start)) (view_of start) (calls_of s)).monitor
   unfolding replay calls_from
-  monitor_all = ap (λ (j : ℕ). (replay (compile (bytes_of start)) (view (situation q)) (calls_from s j i)).monitor) (sym none_left) ∙ g.monitor
+  monitor_all = ap (λ (j : ℕ). (replay (compile (bytes_of start)) (view q) (calls_from s j i)).monitor) (sym none_left) ∙ g.monitor
 
   pub finishes : {out' : List ℕ} {size : ℕ} → Sound start → 120 * (length s / 5) + 120 ≤ length before → Wrote out end (tail_line (length s - i)) out' size → length out' ≡ length out
       → MarkRight start s n before out' (record { monitor = with_state start q; calls = made; size = size })

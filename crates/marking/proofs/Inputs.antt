@@ -9,7 +9,7 @@ use lib.Seq.{length-take-le}
 use borrow.Author.Tests.{lt-ltb, le-ltb}
 use Rattle.enforcement.specs.Limits.{max_size}
 use Rattle.enforcement.specs.Automaton.{Bytes, word}
-use Rattle.io.specs.Counts.{IsPrefixLen}
+use Rattle.std.specs.Counts.{IsPrefixLen}
 use Rattle.marking.specs.Marks.{size_in, sheet_in}
 
 -- ---- The sheet's length

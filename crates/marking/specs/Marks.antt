@@ -8,7 +8,7 @@ use Rattle.enforcement.specs.History.{History, Call, Outcome, Answers, Dark}
 use Rattle.enforcement.specs.Model.{Compiled, compile}
 use Rattle.enforcement.specs.Monitor.{fresh_monitor, answer, replay}
 use Rattle.enforcement.specs.Monitor as model
-use Rattle.io.specs.Counts.{IsPrefixLen}
+use Rattle.std.specs.Counts.{IsPrefixLen}
 use Rattle.retimer.specs.Bytes.{Wrote}
 use Rattle.report.specs.Lines.{sheet_line, refused_line, outcome_text, call_line, tail_line}
 use Rattle.retimer.specs.declared.limits.Monitor.{Monitor}

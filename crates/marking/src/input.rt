@@ -41,6 +41,7 @@ pub fn size_in(input: &[u8]) -> usize
 }
 
 // Loads the sheet that the input begins with at a date; too few bytes are no sheet.
+#[inline(never)]
 pub fn load(input: &[u8], loaded: u32) -> Loaded
     ensures { LoadRight (sheet_in input.now) loaded result }
 {

@@ -1,6 +1,6 @@
 // The key of a sheet, its loading date and a list of calls that stand in slices: the program's whole text.
 ghost use Rattle.std.specs.Prelude.{◌+◌, ◌*◌, ◌/◌, ◌≤◌, length};
-ghost use Rattle.io.specs.Counts.{IsPrefixLen};
+ghost use Rattle.std.specs.Counts.{IsPrefixLen};
 ghost use Rattle.retimer.specs.Bytes.{Wrote};
 ghost use Rattle.marking.specs.Marks.{key_text};
 

@@ -1,4 +1,6 @@
 // Marking: a sheet and a list of calls, and a line for each.
+#![tactic(auto)]
+
 pub mod block;
 pub mod desk;
 pub mod input;

@@ -36,9 +36,9 @@ goes r e h = rw e h
 -- ---- Two sheets that load
 
 module _ (s u : Bytes) where
-  pub other-actions : (actions s ≡ actions u → ⊥) → refused i_12 ≡ fitting s u
+  pub other_actions : (actions s ≡ actions u → ⊥) → refused i_12 ≡ fitting s u
   unfolding fitting
-  other-actions h = stops i_12 _ (ne_eqb (actions s) (actions u) h)
+  other_actions h = stops i_12 _ (ne_eqb (actions s) (actions u) h)
 
   module _ (same : actions s ≡ actions u) where
     pub too_many_clocks : 2 < clocks s + clocks u → refused i_13 ≡ fitting s u
@@ -49,14 +49,14 @@ module _ (s u : Bytes) where
       sized : {b : Bool} → leb (locations s * locations u) max_count ≡ b → (leb (clocks s + clocks u) 2 && leb (locations s * locations u) max_count) ≡ b
       sized e = ap (λ (b : Bool). b && leb (locations s * locations u) max_count) (le-leb (clocks s + clocks u) 2 few) ∙ e
 
-      pub too-many-locations : max_count < locations s * locations u → refused i_13 ≡ fitting s u
+      pub too_many_locations : max_count < locations s * locations u → refused i_13 ≡ fitting s u
       unfolding fitting
-      too-many-locations h = goes i_12 (eq-eqb (actions s) (actions u) same) (stops i_13 _ (sized (lt-leb (locations s * locations u) max_count h)))
+      too_many_locations h = goes i_12 (eq-eqb (actions s) (actions u) same) (stops i_13 _ (sized (lt-leb (locations s * locations u) max_count h)))
 
       module _ (small : locations s * locations u ≤ max_count) where
-        pub too-many-transitions : max_transitions < length (product_transitions s u) → refused i_14 ≡ fitting s u
+        pub too_many_transitions : max_transitions < length (product_transitions s u) → refused i_14 ≡ fitting s u
         unfolding fitting
-        too-many-transitions h =
+        too_many_transitions h =
             goes i_12 (eq-eqb (actions s) (actions u) same) (goes i_13 (sized (le-leb (locations s * locations u) max_count small)) (stops i_14 _ (lt-leb (length (product_transitions s u)) max_transitions h)))
 
         -- The length of the joined sheet, of k locations with n transitions.
@@ -69,11 +69,11 @@ module _ (s u : Bytes) where
 -- ---- Any two sheets
 
 -- A sheet's own refusal, and a sheet without one.
-pub own-refused : (f : Reason → Refusal) (o : Outcome) {v : Checked} (r : Reason) → loading.refused r ≡ v → refused (f r) ≡ own f v o
-own-refused f o r e = ap (λ (v : Checked). own f v o) e
+pub own_refused : (f : Reason → Refusal) (o : Outcome) {v : Checked} (r : Reason) → loading.refused r ≡ v → refused (f r) ≡ own f v o
+own_refused f o r e = ap (λ (v : Checked). own f v o) e
 
-pub own-loads : (f : Reason → Refusal) {a o : Outcome} {v : Checked} (k : loading.Counts) → accepted k ≡ v → a ≡ o → a ≡ own f v o
-own-loads f {a} {o} k e h = h ∙ ap (λ (v : Checked). own f v o) e
+pub own_loads : (f : Reason → Refusal) {a o : Outcome} {v : Checked} (k : loading.Counts) → accepted k ≡ v → a ≡ o → a ≡ own f v o
+own_loads f {a} {o} k e h = h ∙ ap (λ (v : Checked). own f v o) e
 
 module _ (m : ℕ) (s u : Bytes) where
   -- What is answered where the output has the right length.
@@ -84,13 +84,13 @@ module _ (m : ℕ) (s u : Bytes) where
   unfolding answer
   wrong_length h = stops i_9 _ (ne_eqb m max_size h)
 
-  pub right-length : m ≡ max_size → rest ≡ answer m s u
+  pub right_length : m ≡ max_size → rest ≡ answer m s u
   unfolding answer
-  right-length h = goes i_9 (eq-eqb m max_size h) refl
+  right_length h = goes i_9 (eq-eqb m max_size h) refl
 
   -- Where a length is answered, the sheets can be joined.
-  pub written-joinable : (n : ℕ) → answer m s u ≡ written n → Joinable s u
-  written-joinable n e = go (check_right m s u).one_of
+  pub written_joinable : (n : ℕ) → answer m s u ≡ written n → Joinable s u
+  written_joinable n e = go (check_right m s u).one_of
     where
       go : (answer m s u ≡ written (length (joined s u))) ⊎ ((r : Refusal) × (answer m s u ≡ refused r)) → Joinable s u
       go (inl a) = ((joins_is m s u).0 ((check_right m s u).accepts.0 a)).1
@@ -116,16 +116,16 @@ module _ (s u : Bytes) {a b c : Bytes} {i j : ℕ} (h : Wrote a 0 (header_bytes 
     all_end = omega (arith, pairs_end, t.ends, bytes_length (product_transitions s u))
 
     module _ (joins : Joinable s u) (sized : length a ≡ max_size) where
-      pub all-inside : k ≤ max_size
-      all-inside = omega (arith, all_end, joins.locations_fit, joins.transitions_fit)
+      pub all_inside : k ≤ max_size
+      all_inside = omega (arith, all_end, joins.locations_fit, joins.transitions_fit)
 
-      joined-put : Wrote a 0 (joined s u) d k
-      joined-put =
+      joined_put : Wrote a 0 (joined s u) d k
+      joined_put =
           let l = length_locations s u (locations s * locations u) 0 in
-          next (omega (arith, pairs_end, all_end, all-inside)) (next (omega (arith, h.ends, all_end, all-inside)) h (as_part p (ap (λ (n : ℕ). pairs_from (6 + 4 * n) (all_locations s u)) (sym l)))) t
+          next (omega (arith, pairs_end, all_end, all_inside)) (next (omega (arith, h.ends, all_end, all_inside)) h (as_part p (ap (λ (n : ℕ). pairs_from (6 + 4 * n) (all_locations s u)) (sym l)))) t
 
-      pub output-is : (after : Bytes) → length d ≡ max_size → after ≡ take k d ++ replicate (length d - k) 0 → after ≡ output s u
-      output-is after l e =
-          let n : length (joined s u) ≡ k = omega (arith, joined-put.ends) in
-          let f : take k d ≡ joined s u = ap (take k) joined-put.is ∙ take_at (joined s u) _ k n in
+      pub output_is : (after : Bytes) → length d ≡ max_size → after ≡ take k d ++ replicate (length d - k) 0 → after ≡ output s u
+      output_is after l e =
+          let n : length (joined s u) ≡ k = omega (arith, joined_put.ends) in
+          let f : take k d ≡ joined s u = ap (take k) joined_put.is ∙ take_at (joined s u) _ k n in
           e ∙ ap₂ (λ (x : Bytes) (y : ℕ). x ++ replicate y 0) f (ap₂ ◌-◌ l (sym n))

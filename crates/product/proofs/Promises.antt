@@ -15,7 +15,7 @@ use Rattle.product.proofs.Reading.{reads_both}
 use Rattle.product.proofs.Loadable.{loadable}
 use Rattle.product.proofs.Runs.{runs_both}
 use Rattle.product.proofs.Refusals.{check_right}
-use Rattle.product.proofs.Answers.{written-joinable}
+use Rattle.product.proofs.Answers.{written_joinable}
 
 module _ (m n : ℕ) (s u : Bytes) (e : answer m s u ≡ written n) where
   -- Where a length is answered, it is that of the joined sheet.
@@ -28,13 +28,13 @@ module _ (m n : ℕ) (s u : Bytes) (e : answer m s u ≡ written n) where
 
   -- It is no longer than the output.
   pub sheet_short : n ≤ max_size
-  sheet_short = omega (arith, length_answered, (size_fits (joined s u) (loadable (written-joinable m s u n e)).formed).1)
+  sheet_short = omega (arith, length_answered, (size_fits (joined s u) (loadable (written_joinable m s u n e)).formed).1)
 
 -- By any function that promises this of its output.
 pub delivered : {s u before after : Bytes} (n : ℕ) → answer (length before) s u ≡ written n → OutputRight s u before after → Delivered s u n after
 delivered {s} {u} {before} {after} n e o =
     let l = length_answered (length before) n s u e in
-    let j = written-joinable (length before) s u n e in
+    let j = written_joinable (length before) s u n e in
     let w = o.wrote n e in
     record {
       joinable = j;

@@ -13,7 +13,7 @@ use retimer::sheet;
 use retimer::sheet::Checked;
 
 // What joining answers.
-#[derive(Drop)]
+#[derive(Clone, Copy)]
 pub enum Answer {
     // How many bytes the joined sheet has.
     Joined(usize),

@@ -1,4 +1,5 @@
 // The product of two automata: two sheets as one.
+#![tactic(auto)]
 
 // Its locations.
 mod location;

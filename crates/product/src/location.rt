@@ -7,7 +7,7 @@ ghost use Rattle.product.specs.Rows.{BothRight};
 use retimer::bytes;
 
 // A location of each sheet.
-#[derive(Drop)]
+#[derive(Clone, Copy)]
 pub struct Both {
     pub first: usize,
     pub second: usize,

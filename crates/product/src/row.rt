@@ -7,7 +7,7 @@ ghost use Rattle.product.specs.Rows.{RowRight};
 use retimer::bytes;
 
 // So many transitions, the first one's bytes at a place.
-#[derive(Drop)]
+#[derive(Clone, Copy)]
 pub struct Row {
     pub first: usize,
     pub count: usize,

@@ -6,7 +6,7 @@ use Prim.Native.Nat.{ℕ, ◌+◌, ◌≤◌}
 use native.Mathlib.Omega.{arith}
 use lib.ListN.{length}
 use lib.Seq.{length-take-le}
-use Rattle.io.specs.Counts.{IsPrefixLen}
+use Rattle.std.specs.Counts.{IsPrefixLen}
 use Rattle.retimer.specs.Bytes.{Wrote}
 
 pub counted : {x t y : List ℕ} {at e : ℕ} → Wrote x at t y e → length y ≡ length x → at + length t ≤ length x → IsPrefixLen e y

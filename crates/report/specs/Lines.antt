@@ -10,19 +10,19 @@ use Rattle.retimer.specs.Calls.{outcome_of}
 use Rattle.report.specs.Texts.{ascii, numeral, figure}
 
 abbrev pub reason_text : Reason → List ℕ
-reason_text i_1 = ascii "i_1"
-reason_text i_2 = ascii "i_2"
-reason_text i_3 = ascii "i_3"
-reason_text i_4 = ascii "i_4"
-reason_text i_5 = ascii "i_5"
-reason_text i_6 = ascii "i_6"
-reason_text i_7 = ascii "i_7"
-reason_text i_8 = ascii "i_8"
-reason_text s_1 = ascii "s_1"
-reason_text s_2 = ascii "s_2"
-reason_text s_3 = ascii "s_3"
-reason_text s_4 = ascii "s_4"
-reason_text s_5 = ascii "s_5"
+reason_text i_1 = ascii "I-1"
+reason_text i_2 = ascii "I-2"
+reason_text i_3 = ascii "I-3"
+reason_text i_4 = ascii "I-4"
+reason_text i_5 = ascii "I-5"
+reason_text i_6 = ascii "I-6"
+reason_text i_7 = ascii "I-7"
+reason_text i_8 = ascii "I-8"
+reason_text s_1 = ascii "S-1"
+reason_text s_2 = ascii "S-2"
+reason_text s_3 = ascii "S-3"
+reason_text s_4 = ascii "S-4"
+reason_text s_5 = ascii "S-5"
 
 -- The first line: locations, clocks and actions; then transitions and accepting locations.
 abbrev pub header_text : Counts → List ℕ

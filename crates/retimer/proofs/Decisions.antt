@@ -17,7 +17,7 @@ use Rattle.enforcement.specs.History.{actions_of, dropped}
 use Rattle.enforcement.specs.Model.{Prospect, ticks, extensible, dead, top, Compiled, prospect, dates, advance, compile}
 use Rattle.enforcement.specs.Monitor.{same, dated, joins, earliest, standing, walk, placed, kept, decided, checked, is_dead, is_lit}
 use Rattle.enforcement.specs.Monitor as model
-use Rattle.retimer.specs.Situation.{State}
+use Rattle.retimer.specs.declared.limits.State.{State}
 use Rattle.retimer.specs.declared.optimum.Planned.{Planned}
 use Rattle.retimer.specs.Readings.{waited, located}
 use Rattle.retimer.specs.Optimum.{Asked, PlanRight, LampAsked}

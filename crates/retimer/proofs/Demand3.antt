@@ -19,7 +19,6 @@ use Rattle.retimer.specs.declared.limits.Monitor.{Monitor}
 use Rattle.retimer.specs.declared.state.Answer.{Answer}
 use Rattle.retimer.specs.declared.state.Answer.TheVariants.{Scheduled, Held, Dropped, Played, Nothing, Lit, Dark, Refused}
 use Rattle.retimer.specs.declared.monitor.Answered.{Answered}
-use Rattle.retimer.specs.Situation.{situation}
 use Rattle.retimer.specs.View.{bytes_of, view, view_of, Valid}
 use Rattle.retimer.specs.Calls.{outcome_of, answered_of, CallRight, FreshRight}
 use Rattle.retimer.specs.Demand3.{Made, end, call, outcomes_of, CodeDemand3}
@@ -39,7 +38,7 @@ unfolding replay
 made_follows s e v end = record { monitor_is = refl; outcomes_are = refl; sheet_is = e; valid = v }
 made_follows {b} {b'} s e v (call {k = k} {ks = ks} {xs = xs} r c m) =
     let f : Follows s r.monitor ks xs b' = made_follows s (ap bytes_of c.kept ∙ e) c.valid m in
-    let w : answered_of r ≡ answer (compile s) (view_of b) k = subst (λ (x : Bytes). answered_of r ≡ answer (compile x) (view_of b) k) e c.right.is in
+    let w : answered_of r ≡ answer (compile s) (view_of b) k = subst (λ (x : Bytes). answered_of r ≡ answer (compile x) (view_of b) k) e c.is in
     let z : view_of r.monitor ≡ (answer (compile s) (view_of b) k).monitor = ap (λ (x : model.Answered). x.monitor) w in
     record {
       monitor_is = f.monitor_is ∙ ap (λ (x : model.Monitor). (replay (compile s) x ks).monitor) z;
@@ -62,7 +61,7 @@ pub rule_follows : {b b' : Monitor} {ks : List Call} {xs : List Answer} (s : Byt
     → (h' : History) × HistoryOf (automaton s d) h ks (outcomes_of xs) h' × StandsFor (automaton s d) (view_of b') h'
 rule_follows s d h e f end = (h, HistoryOf.end, f)
 rule_follows {b} s d h e f (call {k = k} r c m) =
-    let z : Demand2 (automaton s d) h k (answered_of r) = subst (λ (x : Bytes). StandsFor (automaton x d) (view_of b) h → Demand2 (automaton x d) h k (answered_of r)) e (c.right.rule d h) f in
+    let z : Demand2 (automaton s d) h k (answered_of r) = subst (λ (x : Bytes). StandsFor (automaton x d) (view_of b) h → Demand2 (automaton x d) h k (answered_of r)) e (c.rule d h) f in
     let y = rule_follows s d z.history (ap bytes_of c.kept ∙ e) z.stands m in
     (y.0, HistoryOf.call z.answers y.1, y.2)
 
@@ -98,9 +97,9 @@ told : (a : Answer) (x : Bool) → outcome_of a ≡ cond x lit dark → a ≡ co
 told a true e = answer_of a lit e
 told a false e = answer_of a dark e
 
-lamp_told : (b : Monitor) (r : Answered) → CallRight b lamp r → r.answer ≡ cond b.state.head.lit Lit Dark
+lamp_told : (b : Monitor) (r : Answered) → CallRight b lamp r → r.answer ≡ cond b.state.lit Lit Dark
 unfolding answer view
-lamp_told b r c = told r.answer b.state.head.lit (ap (λ (w : model.Answered). w.outcome) c.right.is)
+lamp_told b r c = told r.answer b.state.lit (ap (λ (w : model.Answered). w.outcome) c.is)
 
 -- ---- Demand 3
 
@@ -130,14 +129,14 @@ module _ (s : Bytes) (d : ℕ) (b₀ : Monitor) (f : FreshRight s d b₀) (ks : 
       let g : Follows s b more ys b' = made_follows s now.sheet_is now.valid n in
       (g.monitor_is ∙ ap (λ (x : model.Monitor). (replay (compile s) x more).monitor) monitor_is ∙ sym (replay_append (compile s) ks more (fresh_monitor (automaton s d))), g.sheet_is)
 
-  lit_now : b.state.head.lit ≡ lamp_after (automaton s d) ks
-  lit_now = view_lit (situation b.state) monitor_is
+  lit_now : b.state.lit ≡ lamp_after (automaton s d) ks
+  lit_now = view_lit b.state monitor_is
 
-  all_dropped : b.state.head.lit ≡ true → (more : List Call) (ys : List Answer) (b' : Monitor) → Made b more ys b' → (c t : ℕ) → Admitted (automaton s d) (view_of b') c t → (q : Answered) → CallRight b' (offer c t) q → q.answer ≡ Dropped
+  all_dropped : b.state.lit ≡ true → (more : List Call) (ys : List Answer) (b' : Monitor) → Made b more ys b' → (c t : ℕ) → Admitted (automaton s d) (view_of b') c t → (q : Answered) → CallRight b' (offer c t) q → q.answer ≡ Dropped
   all_dropped e more ys b' n c t i q w =
       let g = after_more more ys b' n in
       answer_of q.answer dropped
-      (ap (λ (x : model.Answered). x.outcome) w.right.is ∙ ap₂ (λ (x : Bytes) (v : model.Monitor). (answer (compile x) v (offer c t)).outcome) g.1 g.0
+      (ap (λ (x : model.Answered). x.outcome) w.is ∙ ap₂ (λ (x : Bytes) (v : model.Monitor). (answer (compile x) v (offer c t)).outcome) g.1 g.0
       ∙ (model_right ks).drops (sym lit_now ∙ e) more c t (subst (λ (v : model.Monitor). Admitted (automaton s d) v c t) g.0 i))
 
   pub code_demand_3 : CodeDemand3 s d ks xs b
@@ -150,7 +149,7 @@ module _ (s : Bytes) (d : ℕ) (b₀ : Monitor) (f : FreshRight s d b₀) (ks : 
     dark_is = subst⁻¹ (λ (x : Bool). (x ≡ false) ↔ Schedulable (automaton s d) z.history) lit_now z.dark_is;
     rule_is = z.rule_is;
     answers_lamp = lamp_told b;
-    stays_lit = λ e more ys b' n. view_lit (situation b'.state) (after_more more ys b' n).0 ∙ z.stays_lit (sym lit_now ∙ e) more;
+    stays_lit = λ e more ys b' n. view_lit b'.state (after_more more ys b' n).0 ∙ z.stays_lit (sym lit_now ∙ e) more;
     drops = all_dropped;
     sheet_is = now.sheet_is;
     valid = now.valid;

@@ -30,10 +30,7 @@ pub mod Outlooks
 pub mod Walk
 pub mod Dating
 pub mod Views
-pub mod HeadLaws
 pub mod CallLaws
-pub mod StepLaws
-pub mod BoxLaws
 pub mod Decisions
 pub mod Stuck
 pub mod Loads

@@ -4,11 +4,11 @@ use mathlib.Core.Path.{◌≡◌, refl, ap, sym, ◌∙◌, subst⁻¹}
 use mathlib.Core.Bool.{Bool, true, false, cond}
 use mathlib.Core.List.{List, [], ◌∷◌}
 use mathlib.Core.Logic.{◌⊎◌, inl, inr}
-use Prim.Native.Nat.{ℕ, ◌+◌, ◌*◌, ◌-◌, ◌≤◌, min, max}
+use Prim.Native.Nat.{ℕ, ◌-◌, ◌≤◌, min, max}
 use native.Mathlib.Omega.{arith}
-use lib.ListN.{length, take, replicate}
+use lib.ListN.{length, take}
 use borrow.Author.Tests.{eq-eqb, ne_eqb}
-use Rattle.enforcement.specs.Limits.{max_size, max_count, max_scheduled, max_date}
+use Rattle.enforcement.specs.Limits.{max_date, max_size}
 use Rattle.enforcement.specs.Automaton.{Bytes, automaton, clocks, initial}
 use Rattle.enforcement.specs.Loading.{Loads, WellFormed, check}
 use Rattle.enforcement.specs.Reason as model-reason
@@ -32,8 +32,6 @@ use Rattle.retimer.specs.Optimum.{LampAsked}
 use Rattle.retimer.specs.Live.{LiveTable}
 use Rattle.retimer.specs.View.{view, view_of}
 use Rattle.retimer.specs.Calls.{initial_state, FreshRight}
-use Rattle.retimer.proofs.Arrays.{zero_at}
-use Rattle.retimer.proofs.HeadLaws.{requests_length, slots_length}
 
 -- ---- The check's answer
 
@@ -107,13 +105,12 @@ module _ (s : Bytes) (d : ℕ) (b : Bytes) (live : List ℕ) (y : ℕ) (lit : Bo
           sound = record {
             bytes_sized = n;
             size_fits = (size_fits s formed).1;
-            lists_sized = record { actions_sized = refl; requests_sized = refl; slots_sized = refl; byte_actions = λ i. omega (arith, zero_at (4 * max_scheduled) (4 * i + 1)) };
             state = record {
               loads = rw front formed;
               table = rw front t;
-              pending_sized = requests_length (replicate max_count 0) (replicate (2 * max_count) 0);
+              pending_sized = refl;
               held_fits = omega arith;
-              schedule_sized = slots_length (replicate (4 * max_scheduled) 0);
+              schedule_sized = refl;
               planned_fits = omega arith;
               standing = rw front (fresh_stands s y formed second);
               date_fits = early;

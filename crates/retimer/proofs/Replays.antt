@@ -8,27 +8,26 @@ use lib.ListN.{length}
 use borrow.Author.Tests.{eq-eqb, ne_eqb}
 use Rattle.enforcement.specs.Automaton.{Bytes, byte}
 use Rattle.enforcement.specs.History.{Call, offer, collect, Outcome, nothing}
-use Rattle.retimer.specs.declared.limits.Head.{Head}
-use Rattle.retimer.specs.declared.head.Step.{Step}
-use Rattle.retimer.specs.Situation.{Lent}
+use Rattle.retimer.specs.declared.limits.State.{State}
 use Rattle.retimer.specs.declared.limits.Monitor.{Monitor}
 use Rattle.retimer.specs.declared.state.Answer.{Answer}
 use Rattle.retimer.specs.declared.state.Answer.TheVariants.{Held, Nothing}
+use Rattle.retimer.specs.declared.state.Moved.{Moved}
 use Rattle.retimer.specs.declared.monitor.Answered.{Answered}
 use Rattle.retimer.specs.declared.sheet.Checked.{Checked}
 use Rattle.retimer.specs.Bytes.{double_word}
 use Rattle.retimer.specs.View.{view_of, Valid}
-use Rattle.retimer.specs.Calls.{outcome_of, StepRight, CallRight, FreshRight}
+use Rattle.retimer.specs.Calls.{outcome_of, MoveRight, CallRight, FreshRight}
 use Rattle.retimer.specs.Demand3.{Made, end, outcomes_of, CodeDemand3}
 use Rattle.retimer.specs.Replay.{call_at, calls_from, calls_of, last_outcome, Followed}
 use Rattle.retimer.proofs.Demand3.{made_one_more, made_valid, code_demand_3}
 
 -- ---- One call
 
-pub call_collect : {sheet live : List ℕ} {h : Head} {l l' : Lent} {r : Step} (s : Bytes) (i t : ℕ) → byte s i ≡ 255 → t ≡ double_word s (i + 1) → StepRight sheet live h l (collect t) l' r → StepRight sheet live h l (call_at s i) l' r
+pub call_collect : {sheet live : List ℕ} {q : State} {r : Moved} (s : Bytes) (i t : ℕ) → byte s i ≡ 255 → t ≡ double_word s (i + 1) → MoveRight sheet live q (collect t) r → MoveRight sheet live q (call_at s i) r
 call_collect s i t e f c = rw (eq-eqb (byte s i) 255 e, ← f) c
 
-pub call_offer : {sheet live : List ℕ} {h : Head} {l l' : Lent} {r : Step} (s : Bytes) (i t : ℕ) → (byte s i ≡ 255 → ⊥) → t ≡ double_word s (i + 1) → StepRight sheet live h l (offer (byte s i) t) l' r → StepRight sheet live h l (call_at s i) l' r
+pub call_offer : {sheet live : List ℕ} {q : State} {r : Moved} (s : Bytes) (i t : ℕ) → (byte s i ≡ 255 → ⊥) → t ≡ double_word s (i + 1) → MoveRight sheet live q (offer (byte s i) t) r → MoveRight sheet live q (call_at s i) r
 call_offer s i t e f c = rw (ne_eqb (byte s i) 255 e, ← f) c
 
 -- ---- The calls so far
@@ -64,7 +63,7 @@ replaying_one {b₀} {b} {s} {i} {a} {r} p h c =
       answers = p.answers ++ (r.answer ∷ []);
       made = subst (λ (ks : List Call). Made b₀ ks (p.answers ++ (r.answer ∷ [])) r.monitor) (sym e) (made_one_more r c p.made);
       last_is = sym (ap (last_outcome nothing) (map-append outcome_of p.answers (r.answer ∷ [])) ∙ last_one_more nothing (outcome_of r.answer) (outcomes_of p.answers));
-      held_count = c.right.held_count;
+      held_count = c.held_count;
       whole = omega (arith, p.whole);
       inside = h;
     }

@@ -11,7 +11,7 @@ use lib.Dec.{leb, ltb, eqb}
 use lib.ListN.{length, length-append}
 use lib.Count.{ones}
 use lib.Pow.{pow-lt}
-use borrow.Author.Tests.{eq-eqb, ne_eqb, le-leb, lt-leb, not-true, not-false}
+use borrow.Author.Tests.{eq-eqb, ne_eqb, le-leb, lt-leb}
 use Rattle.enforcement.specs.Limits.{max_count, max_bound, max_transitions, max_size}
 use Rattle.enforcement.specs.Automaton.{Bytes, word, locations, clocks, actions, offset, size, Transition, transition_at, transitions_from, transitions, transitions_over, all_transitions}
 use Rattle.enforcement.specs.Reason.{Reason}
@@ -19,17 +19,16 @@ use Rattle.enforcement.specs.Loading.{Layout, end_before, refused, size_passes, 
 use Rattle.enforcement.specs.Loading as loading
 use Rattle.enforcement.proofs.Tests.{Tests, leb_tests, both_tests}
 use Rattle.enforcement.proofs.Pairs.{layout_tests, transitions_known, transitions_length}
-use Rattle.retimer.specs.declared.sheet.Checked.{Checked}
 use Rattle.retimer.specs.Checked.{Headed, LaidOut, figures_of}
 
 -- ---- Tests in a row
 
 -- A test's outcome, from a callee's answer and the branch on its negation.
-pub failed : {r a : Bool} → r ≡ a → not r ≡ true → a ≡ false
-failed {r} e h = sym e ∙ not-true r h
+pub failed : {r a : Bool} → r ≡ a → r ≡ false → a ≡ false
+failed e h = sym e ∙ h
 
-pub passed : {r a : Bool} → r ≡ a → not r ≡ false → a ≡ true
-passed {r} e h = sym e ∙ not-false r h
+pub passed : {r a : Bool} → r ≡ a → r ≡ true → a ≡ true
+passed e h = sym e ∙ h
 
 -- The first of two tests fails; it passes, and the rest decides.
 pub stops : {a : Bool} (b : Bool) → a ≡ false → false ≡ a && b

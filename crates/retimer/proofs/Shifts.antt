@@ -1,11 +1,11 @@
 -- Boxes that are loaded d ticks apart, and given the same calls as far apart, are alike exactly when each call can be shifted.
 -- Assumes nothing.
-use mathlib.Core.Path.{◌≡◌, sym, ◌∙◌, subst}
+use mathlib.Core.Path.{◌≡◌, sym, subst}
 use mathlib.Core.List.{List, map}
 use mathlib.Core.Logic.{◌↔◌}
 use Prim.Native.Nat.{ℕ, ◌+◌}
 use Rattle.enforcement.specs.Automaton.{Bytes, automaton}
-use Rattle.enforcement.specs.History.{History, fresh, Call, Outcome, HistoryOf}
+use Rattle.enforcement.specs.History.{fresh, Call, Outcome, HistoryOf}
 use Rattle.enforcement.specs.Demands.{StandsFor}
 use Rattle.enforcement.specs.Shift.{shift_call, shift_outcome, shift_history, AllShiftable}
 use Rattle.enforcement.proofs.Shifts.{alike, outcomes_shiftable, stands_shifted}

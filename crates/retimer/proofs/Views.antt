@@ -20,9 +20,10 @@ use Rattle.enforcement.specs.Monitor.{is_lit, lamp_lit, with_lamp, same, dated, 
 use Rattle.enforcement.specs.Monitor as model
 use Rattle.retimer.specs.declared.limits.Request as limits
 use Rattle.retimer.specs.declared.limits.Slot.{Slot}
-use Rattle.retimer.specs.Situation.{State, Moved}
+use Rattle.retimer.specs.declared.limits.State.{State}
 use Rattle.retimer.specs.declared.state.Answer.{Answer}
 use Rattle.retimer.specs.declared.state.Answer.TheVariants.{Scheduled, Held, Dropped, Played, Nothing, Lit, Dark, Refused}
+use Rattle.retimer.specs.declared.state.Moved.{Moved}
 use Rattle.retimer.specs.declared.reason.Reason.{Reason}
 use Rattle.retimer.specs.declared.reason.Reason.TheVariants.{S2, S3, S4}
 use Rattle.retimer.specs.Reasons.{reason_of}

@@ -1,5 +1,5 @@
 -- What the calls of the box promise.
-use Rattle.std.specs.Prelude.{◌≡◌, Bool, true, false, List, ◌∷◌, [], ◌++◌, ℕ, ◌+◌, ◌*◌, ◌-◌, ◌≤◌, ◌<◌, max, ltb, length, take, drop, get_or, replicate}
+use Rattle.std.specs.Prelude.{◌≡◌, Bool, true, false, List, ◌∷◌, [], ◌++◌, ℕ, ◌+◌, ◌-◌, ◌≤◌, ◌<◌, max, ltb, length, take, get_or, replicate}
 use Rattle.enforcement.specs.Limits.{max_size, max_count, max_scheduled, max_date, max_numbered}
 use Rattle.enforcement.specs.Automaton.{Bytes, automaton}
 use Rattle.enforcement.specs.Loading.{Loads, check}
@@ -10,21 +10,19 @@ use Rattle.enforcement.specs.Monitor.{is_lit, answer, fresh_monitor, checked, pl
 use Rattle.enforcement.specs.Demands.{StandsFor, Demand2}
 use Rattle.retimer.specs.declared.limits.Request.{Request}
 use Rattle.retimer.specs.declared.limits.Slot.{Slot}
-use Rattle.retimer.specs.declared.limits.State as limits
-use Rattle.retimer.specs.declared.limits.Head.{Head}
+use Rattle.retimer.specs.declared.limits.State.{State}
 use Rattle.retimer.specs.declared.limits.Monitor.{Monitor}
 use Rattle.retimer.specs.declared.state.Answer.{Answer}
 use Rattle.retimer.specs.declared.state.Answer.TheVariants.{Scheduled, Held, Dropped, Played, Nothing, Lit, Dark, Refused}
-use Rattle.retimer.specs.declared.head.Step.{Step}
+use Rattle.retimer.specs.declared.state.Moved.{Moved}
 use Rattle.retimer.specs.declared.monitor.Answered.{Answered}
 use Rattle.retimer.specs.declared.monitor.Loaded.{Loaded}
 use Rattle.retimer.specs.declared.reason.Reason.{Reason}
-use Rattle.retimer.specs.Situation.{State, Moved, Lent, state_of, lent_of}
 use Rattle.retimer.specs.Reasons.{reason_of}
 use Rattle.retimer.specs.Checked.{checked_of}
 use Rattle.retimer.specs.Readings.{waited, located, Standing}
 use Rattle.retimer.specs.Counts.{counts_size}
-use Rattle.retimer.specs.View.{bytes_of, automaton_of, pending_of, view, view_of, StateSound, HeadValid, Valid}
+use Rattle.retimer.specs.View.{bytes_of, automaton_of, pending_of, view, view_of, StateSound, StateValid, Valid}
 
 -- Document 01's outcome of each answer.
 abbrev pub outcome_of : Answer → Outcome
@@ -44,13 +42,6 @@ answered_of r = record { outcome = outcome_of r.answer; monitor = view_of r.moni
 abbrev pub moved_of : Moved → model.Answered
 moved_of r = record { outcome = outcome_of r.answer; monitor = view r.state }
 
--- The same of a head and the lists that were left, and a head with an answer.
-abbrev pub stepped_of : Step → Lent → model.Answered
-stepped_of r l = record { outcome = outcome_of r.answer; monitor = view (state_of r.head l) }
-
-abbrev pub step_of : Head → Answer → Step
-step_of h a = record { head = h; answer = a }
-
 -- No request, and no slot: what stands where no list reaches.
 abbrev pub no_request : Request
 no_request = record { action = 0; number = 0; offered = 0 }
@@ -59,8 +50,8 @@ abbrev pub no_slot : Slot
 no_slot = record { request = no_request; date = 0 }
 
 -- A state before any call, at a date, location and readings: the last scheduled date is that date too, and nothing is pending, scheduled or numbered.
-abbrev pub initial_state : ℕ → ℕ → List ℕ → Bool → limits.State
-initial_state d l r x = record { head = record { date = d; last = d; numbered = 0; held = 0; planned = 0; location = l; readings = r; lit = x }; actions = replicate max_count 0; requests = replicate (2 * max_count) 0; slots = replicate (4 * max_scheduled) 0 }
+abbrev pub initial_state : ℕ → ℕ → List ℕ → Bool → State
+initial_state d l r x = record { date = d; pending = replicate max_count no_request; held = 0; schedule = replicate max_scheduled no_slot; planned = 0; location = l; readings = r; last = d; numbered = 0; lit = x }
 
 -- A refusal hands back the state that came.
 abbrev pub refusal : State → Reason → Moved
@@ -82,12 +73,8 @@ abbrev pub lamp_at : Bytes → State → ℕ → Bool
 lamp_at s q t = lamp_with s q t (actions_of (view q).pending)
 
 -- The box with another state: sheet and table are kept.
-abbrev pub with_state : Monitor → limits.State → Monitor
+abbrev pub with_state : Monitor → State → Monitor
 with_state b q = record { bytes = b.bytes; size = b.size; live = b.live; state = q }
-
--- Only the date, the count of numbered offers and the lamp move.
-abbrev pub head_to : Head → ℕ → ℕ → Bool → Head
-head_to h t n x = record { date = t; last = h.last; numbered = n; held = h.held; planned = h.planned; location = h.location; readings = h.readings; lit = x }
 
 -- Answers after which only the date, the count and the lamp may have moved.
 abbrev pub Idle : Answer → Type 0
@@ -143,31 +130,26 @@ pub record PlaceAsked (s : Bytes) (live : List ℕ) (q : State) (t : ℕ) (cs ds
 abbrev pub placed_of : Bytes → State → ℕ → List ℕ → List ℕ → ℕ → model.Answered
 placed_of s q t cs ds last = placed (compile s) (view q) (last_action q cs) t (new_dates q ds) last (ltb max_date last) (ltb (max_scheduled - length (view q).schedule) (length (joins (view q) (last_action q cs) t)))
 
--- ---- What a call promises
+-- What a call on a state promises: what `CallRight` says, of the state beside its sheet and table.
+pub record MoveRight (s : Bytes) (live : List ℕ) (q : State) (k : Call) (r : Moved) : Type 0 where
+  pub is : moved_of r ≡ answer (compile s) (view q) k
+  pub rule : (d : ℕ) (h : History) → StandsFor (automaton s d) (view q) h → Demand2 (automaton s d) h k (moved_of r)
+  pub valid : StateValid s live r.state
+  pub refused_same : (p : Reason) → r.answer ≡ Refused p → r.state ≡ q
+  pub idle_same : Idle r.answer → r.state ≡ moved_to q r.state.date r.state.numbered r.state.lit
+  pub held_count : (n : ℕ) → r.answer ≡ Held n → n ≡ length (view r.state).pending
 
--- Every place behind the lists' ends is as it was.
-pub record Behind (h : Head) (l l' : Lent) : Type 0 where
-  pub actions : drop h.held l'.actions ≡ drop h.held l.actions
-  pub requests : drop (2 * h.held) l'.requests ≡ drop (2 * h.held) l.requests
-  pub slots : drop (4 * h.planned) l'.slots ≡ drop (4 * h.planned) l.slots
-
--- What a call promises (demand 2), of a head and its lists beside a sheet and its table. Answer, head and lists are the model's, and every place behind the lists' ends is as it was. For every loading date and history that they
--- stand for, the answer is the history's, and they stand for the history after it. They are a box's again. A refusal leaves the head and every place of the lists as they came, lamp included, and where nothing is held, scheduled or
--- played only date, count and lamp may have moved; "held" has the held list's own length.
-pub record StepRight (s : Bytes) (live : List ℕ) (h : Head) (l : Lent) (k : Call) (l' : Lent) (r : Step) : Type 0 where
-  pub is : stepped_of r l' ≡ answer (compile s) (view (state_of h l)) k
-  pub behind : Behind r.head l l'
-  pub rule : (d : ℕ) (p : History) → StandsFor (automaton s d) (view (state_of h l)) p → Demand2 (automaton s d) p k (stepped_of r l')
-  pub valid : HeadValid s live r.head l'
-  pub refused_same : (q : Reason) → r.answer ≡ Refused q → (r.head ≡ h) × (l' ≡ l)
-  pub idle_same : Idle r.answer → (r.head ≡ head_to h r.head.date r.head.numbered r.head.lit) × (l' ≡ l)
-  pub held_count : (n : ℕ) → r.answer ≡ Held n → n ≡ length (view (state_of r.head l')).pending
-
--- What a call on a box promises: the same of its head and lists, and that its bytes and its table are as they were; it is a box again.
+-- What a call promises (demand 2): answer and box are the model's; for every loading date and history that the box stands for, the answer is the history's, and the box
+-- stands for the history after it; the box is one, with bytes and table as they were; a refusal hands back the box that came, lamp included, and where nothing is held, scheduled or
+-- played only its date, count and lamp may have moved; "held" has the held list's own length.
 pub record CallRight (b : Monitor) (k : Call) (r : Answered) : Type 0 where
-  pub right : StepRight (bytes_of b) b.live b.state.head (lent_of b.state) k (lent_of r.monitor.state) (step_of r.monitor.state.head r.answer)
-  pub kept : r.monitor ≡ with_state b r.monitor.state
+  pub is : answered_of r ≡ answer (compile (bytes_of b)) (view_of b) k
+  pub rule : (d : ℕ) (h : History) → StandsFor (automaton_of b d) (view_of b) h → Demand2 (automaton_of b d) h k (answered_of r)
   pub valid : Valid r.monitor
+  pub kept : r.monitor ≡ with_state b r.monitor.state
+  pub idle_same : Idle r.answer → r.monitor.state ≡ moved_to b.state r.monitor.state.date r.monitor.state.numbered r.monitor.state.lit
+  pub refused_same : (q : Reason) → r.answer ≡ Refused q → r.monitor ≡ b
+  pub held_count : (n : ℕ) → r.answer ≡ Held n → n ≡ length (view_of r.monitor).pending
 
 -- What a fresh box is: a box of the sheet, loaded at d, that stands for the history of no calls: date and last scheduled date are d, clocks read 0 there, nothing is pending or scheduled, and its lamp is by document 01's rule.
 pub record FreshRight (s : Bytes) (d : ℕ) (b : Monitor) : Type 0 where

@@ -9,15 +9,11 @@ use Rattle.enforcement.specs.Monitor.{walk}
 use Rattle.retimer.specs.declared.optimum.Reached.{Reached}
 use Rattle.retimer.specs.declared.optimum.Ahead.{Ahead}
 use Rattle.retimer.specs.Readings.{located, Standing}
-use Rattle.retimer.specs.Costs.{never, cost, places_for, Ground}
+use Rattle.retimer.specs.Costs.{never, cost, Ground}
 
 -- The most actions of a short list.
 abbrev pub few_actions : ℕ
 few_actions = 5
-
--- The places of a memo for a short list.
-abbrev pub few_places : ℕ
-few_places = places_for few_actions
 
 -- The prospect of the actions from k on.
 abbrev pub left_at : Bytes → List ℕ → ℕ → Configuration → Prospect

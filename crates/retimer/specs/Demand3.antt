@@ -34,12 +34,12 @@ pub record CodeDemand3 (s : Bytes) (d : ℕ) (ks : List Call) (xs : List Answer)
   pub recorded : HistoryOf (automaton s d) (fresh (automaton s d)) ks (outcomes_of xs) history
   pub only : (os : List Outcome) (h : History) → HistoryOf (automaton s d) (fresh (automaton s d)) ks os h → (os ≡ outcomes_of xs) × (h ≡ history)
   pub stands : StandsFor (automaton s d) (view_of b) history
-  pub lit_is : (b.state.head.lit ≡ true) ↔ (Schedulable (automaton s d) history → ⊥)
-  pub dark_is : (b.state.head.lit ≡ false) ↔ Schedulable (automaton s d) history
+  pub lit_is : (b.state.lit ≡ true) ↔ (Schedulable (automaton s d) history → ⊥)
+  pub dark_is : (b.state.lit ≡ false) ↔ Schedulable (automaton s d) history
   pub rule_is : reference.Dark (automaton s d) history ↔ Schedulable (automaton s d) history
-  pub answers_lamp : (r : Answered) → CallRight b lamp r → r.answer ≡ cond b.state.head.lit Lit Dark
-  pub stays_lit : b.state.head.lit ≡ true → (more : List Call) (ys : List Answer) (b' : Monitor) → Made b more ys b' → b'.state.head.lit ≡ true
-  pub drops : b.state.head.lit ≡ true → (more : List Call) (ys : List Answer) (b' : Monitor) → Made b more ys b' → (c t : ℕ) → Admitted (automaton s d) (view_of b') c t → (q : Answered) → CallRight b' (offer c t) q → q.answer ≡ Dropped
+  pub answers_lamp : (r : Answered) → CallRight b lamp r → r.answer ≡ cond b.state.lit Lit Dark
+  pub stays_lit : b.state.lit ≡ true → (more : List Call) (ys : List Answer) (b' : Monitor) → Made b more ys b' → b'.state.lit ≡ true
+  pub drops : b.state.lit ≡ true → (more : List Call) (ys : List Answer) (b' : Monitor) → Made b more ys b' → (c t : ℕ) → Admitted (automaton s d) (view_of b') c t → (q : Answered) → CallRight b' (offer c t) q → q.answer ≡ Dropped
   pub sheet_is : bytes_of b ≡ s
   pub valid : Valid b
 

@@ -20,9 +20,7 @@ pub mod Targets
 pub mod Layers
 pub mod Dates
 pub mod Outlook
-pub mod Situation
 pub mod View
 pub mod Calls
-pub mod Heads
 pub mod Replay
 pub mod Demand3

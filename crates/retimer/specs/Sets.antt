@@ -2,7 +2,6 @@
 -- A set has h rows for each location. Row i of h stands for the second reading width - h + i: all of them with two clocks, only the saturated one with one clock.
 use Rattle.std.specs.Prelude.{◌≡◌, Bool, true, cond, List, ◌⊎◌, ◌↔◌, ℕ, ◌+◌, ◌*◌, ◌^◌, ◌≤◌, ◌<◌, min, ◌-◌, length, get_or, eqb}
 use Rattle.std.proofs.Math.Option.{some}
-use Rattle.enforcement.specs.Limits.{max_count}
 use Rattle.enforcement.specs.Automaton.{Bytes, Transition, transition_at, transitions, bit, clocks, locations, within, enabled}
 use Rattle.enforcement.specs.Loading.{WellFormed, Fits}
 use Rattle.enforcement.specs.TimedWord.{Configuration, step}
@@ -224,11 +223,6 @@ pub record Played (s : Bytes) (c : ℕ) (set new : List ℕ) (places : ℕ) : Ty
 pub record Elapsed (s : Bytes) (set new : List ℕ) (places : ℕ) : Type 0 where
   pub reached : Reached s new places
   pub right : (q : Configuration) → Contains s new q ↔ ((p : Configuration) × (n : ℕ) × Contains s set p × (q ≡ advance n p))
-
--- Room for a set of any automaton's configurations, every place 0.
-pub record Blank (set : List ℕ) : Type 0 where
-  pub sized : length set ≡ max_count * width
-  pub blank : (j : ℕ) → get_or set j 0 ≡ 0
 
 -- A set without members.
 pub record Empty (s : Bytes) (set : List ℕ) : Type 0 where

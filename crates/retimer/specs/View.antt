@@ -1,5 +1,5 @@
 -- The code's monitor as document 01's box: numbers and lists; and what every load and call promises of it.
-use Rattle.std.specs.Prelude.{◌≡◌, List, map, ℕ, ◌+◌, ◌*◌, ◌≤◌, ◌<◌, length, take, get_or}
+use Rattle.std.specs.Prelude.{◌≡◌, List, map, ℕ, ◌≤◌, length, take}
 use Rattle.enforcement.specs.Limits.{max_size, max_count, max_scheduled, max_date, max_numbered}
 use Rattle.enforcement.specs.Automaton.{Bytes, Automaton, automaton}
 use Rattle.enforcement.specs.Loading.{WellFormed}
@@ -9,9 +9,8 @@ use Rattle.enforcement.specs.Monitor as model
 use Rattle.enforcement.specs.Demands.{StandsFor}
 use Rattle.retimer.specs.declared.limits.Request.{Request}
 use Rattle.retimer.specs.declared.limits.Slot.{Slot}
-use Rattle.retimer.specs.declared.limits.Head.{Head}
+use Rattle.retimer.specs.declared.limits.State.{State}
 use Rattle.retimer.specs.declared.limits.Monitor.{Monitor}
-use Rattle.retimer.specs.Situation.{State, Lent, state_of, lent_of, situation}
 use Rattle.retimer.specs.Readings.{located, Standing}
 use Rattle.retimer.specs.Live.{LiveTable}
 
@@ -40,7 +39,7 @@ unfoldable pub view : State → model.Monitor
 view q = record { date = q.date; pending = pending_of q; schedule = schedule_of q; configuration = located q.location q.readings; last = q.last; numbered = q.numbered; lit = q.lit }
 
 abbrev pub view_of : Monitor → model.Monitor
-view_of b = view (situation b.state)
+view_of b = view b.state
 
 -- A well-formed sheet, its table, and a state whose parts fit.
 pub record StateSound (s : Bytes) (live : List ℕ) (q : State) : Type 0 where
@@ -55,23 +54,11 @@ pub record StateSound (s : Bytes) (live : List ℕ) (q : State) : Type 0 where
   pub last_fits : q.last ≤ max_date
   pub numbered_fits : q.numbered ≤ max_numbered
 
--- Each slot's action is a byte.
-abbrev pub ByteActions : List ℕ → Type 0
-ByteActions ds = (i : ℕ) → get_or ds (4 * i + 1) 0 < 256
-
--- The lists have their sizes, and each slot's action is a byte.
-pub record Sized (l : Lent) : Type 0 where
-  pub actions_sized : length l.actions ≡ max_count
-  pub requests_sized : length l.requests ≡ 2 * max_count
-  pub slots_sized : length l.slots ≡ 4 * max_scheduled
-  pub byte_actions : ByteActions l.slots
-
 -- The parts of a box fit.
 pub record Sound (b : Monitor) : Type 0 where
   pub bytes_sized : length b.bytes ≡ max_size
   pub size_fits : b.size ≤ max_size
-  pub lists_sized : Sized (lent_of b.state)
-  pub state : StateSound (bytes_of b) b.live (situation b.state)
+  pub state : StateSound (bytes_of b) b.live b.state
 
 -- Some loading date, some calls from a box that is loaded then, their history, and that the box stands for it, its lamp by document 01's rule among the rest.
 pub record Recorded (s : Bytes) (v : model.Monitor) : Type 0 where
@@ -87,15 +74,6 @@ pub record Recorded (s : Bytes) (v : model.Monitor) : Type 0 where
 pub record StateValid (s : Bytes) (live : List ℕ) (q : State) : Type 0 where
   pub sound : StateSound s live q
   pub recorded : Recorded s (view q)
-
--- A head and lists whose parts fit, and that are a box's.
-pub record HeadSound (s : Bytes) (live : List ℕ) (h : Head) (l : Lent) : Type 0 where
-  pub sized : Sized l
-  pub state : StateSound s live (state_of h l)
-
-pub record HeadValid (s : Bytes) (live : List ℕ) (h : Head) (l : Lent) : Type 0 where
-  pub sized : Sized l
-  pub state : StateValid s live (state_of h l)
 
 -- A box: its parts fit, and it stands for the history of some list of calls from a fresh one, loaded at some date. Every load and call promises this of the box that it gives, and a call asks for nothing else.
 pub record Valid (b : Monitor) : Type 0 where

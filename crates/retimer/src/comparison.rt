@@ -4,7 +4,7 @@ ghost use Rattle.enforcement.specs.Comparison.{at_least, exactly, at_most, betwe
 ghost use Rattle.retimer.specs.Comparisons.{comparison_of};
 
 // The cases, each named for what is compared.
-#[derive(Drop)]
+#[derive(Clone, Copy)]
 pub enum Comparison {
     AtLeast,
     Exactly,

@@ -15,7 +15,7 @@ use crate::{bytes, clocks, liveness, locations, waits};
 pub const NEVER: u16 = Monitor::LONGEST as u16 + 1;
 
 // A chain: the locations that are reached along a diagonal without a reset, and the least ticks so far of what left it or ended. Their positions stand in an array beside it.
-#[derive(Drop)]
+#[derive(Clone, Copy)]
 struct Front {
     places: u16,
     best: u16,

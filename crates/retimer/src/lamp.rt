@@ -4,12 +4,11 @@ ghost use Rattle.enforcement.specs.Model.{compile};
 ghost use Rattle.enforcement.specs.Monitor.{is_lit};
 ghost use Rattle.retimer.specs.Readings.{located};
 ghost use Rattle.retimer.specs.Optimum.{LampAsked};
-ghost use Rattle.retimer.specs.Sets.{Blank};
 
 use crate::{outlook, reach};
 
 // Whether the lamp is lit, with these actions pending.
-fn is_lit_fresh<'a>(s: &'a [u8], live: &'a [u8], cs: &[u8], l: u8, r: [u8; 2]) -> bool
+pub fn is_lit<'a>(s: &'a [u8], live: &'a [u8], cs: &'a [u8], l: u8, r: [u8; 2]) -> bool
     requires { LampAsked s.now live.now l r }
     ensures { result ≡ is_lit (compile s.now) (located l r) cs.now }
 {
@@ -17,19 +16,4 @@ fn is_lit_fresh<'a>(s: &'a [u8], live: &'a [u8], cs: &[u8], l: u8, r: [u8; 2]) -
         return outlook::none_next(s, live, l, r);
     }
     reach::is_dead(s, live, cs, l, r)
-}
-
-pub fn is_lit<'a>(
-    s: &'a [u8],
-    live: &'a [u8],
-    cs: &[u8],
-    l: u8,
-    r: [u8; 2],
-    set: &mut [u64],
-    next: &mut [u64],
-) -> bool
-    requires { (LampAsked s.now live.now l r) × ((Blank set.old) × (Blank next.old)) }
-    ensures { (result ≡ is_lit (compile s.now) (located l r) cs.now) × ((Blank set.new) × (Blank next.new)) }
-{
-    is_lit_fresh(s, live, cs, l, r)
 }

@@ -1,4 +1,5 @@
 // The command retimer: the layers of code, each using only those before it.
+#![tactic(auto)]
 
 // The box's struct and its limits.
 pub mod limits;
@@ -57,14 +58,8 @@ pub mod lamp;
 // Lists that are kept at the front of arrays.
 pub mod lists;
 
-// What a call answers, and the state before any call.
+// The calls on a box's state.
 pub mod state;
-
-// The lists of a box as lent numbers.
-pub mod slots;
-
-// The calls on a box's head, with its lists lent.
-pub mod head;
 
 // The box's calls.
 pub mod monitor;

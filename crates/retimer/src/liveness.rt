@@ -14,13 +14,13 @@ use crate::sets::{diagonals, lead, meet, whole};
 use crate::{bytes, locations, sets};
 
 // The live configurations as a set.
-#[derive(Drop)]
+#[derive(Clone, Copy)]
 struct Live {
     set: [u64; sets::SIZE],
 }
 
 // The table of live configurations, as counts.
-#[derive(Drop)]
+#[derive(Clone, Copy)]
 pub struct Liveness {
     pub counts: [u8; Monitor::COUNTS],
 }

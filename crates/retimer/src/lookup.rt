@@ -8,7 +8,7 @@ ghost use Rattle.retimer.specs.Steps.{applies, Placed, StepRight};
 use crate::{bytes, clocks};
 
 // Where an action leads; the configuration that was left where no transition is enabled.
-#[derive(Drop)]
+#[derive(Clone, Copy)]
 pub struct Stepped {
     pub found: bool,
     pub location: u8,

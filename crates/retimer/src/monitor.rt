@@ -9,16 +9,16 @@ ghost use Rattle.retimer.specs.Calls.{with_state, CallRight, FreshRight, no_moni
 use crate::limits::{Monitor, State};
 use crate::sheet::Checked;
 use crate::state::Answer;
-use crate::{lists, liveness, optimum, outlook, sets, sheet};
+use crate::{lists, liveness, outlook, sheet};
 
-#[derive(Drop)]
+#[derive(Clone, Copy)]
 pub struct Answered {
     pub monitor: Monitor,
     pub answer: Answer,
 }
 
 // The check's answer, with a box beside it. After a refusal `Monitor::nothing` stands in the box's place.
-#[derive(Drop)]
+#[derive(Clone, Copy)]
 pub struct Loaded {
     pub monitor: Monitor,
     pub checked: Checked,
@@ -90,37 +90,11 @@ impl Monitor {
         let state = self.state;
         let s: &[u8] = &self.bytes;
         let live: &[u8] = &self.live;
-        let head = state.head;
-        let mut cs = state.actions;
-        let mut rs = state.requests;
-        let mut ds = state.slots;
-        let mut set = [0u64; sets::SIZE];
-        let mut next = [0u64; sets::SIZE];
-        let mut first = [0u16; optimum::FEW_PLACES];
-        let mut second = [0u16; optimum::FEW_PLACES];
-        let step = head.offer(
-            &s[..size],
-            live,
-            &mut cs,
-            &mut rs,
-            &mut ds,
-            c,
-            t,
-            &mut set,
-            &mut next,
-            &mut first,
-            &mut second,
-        );
-        let after = step.head;
-        let answer = step.answer;
-        let next = State {
-            head: after,
-            actions: cs,
-            requests: rs,
-            slots: ds,
-        };
+        let moved = state.offer(&s[..size], live, c, t);
+        let after = moved.state;
+        let answer = moved.answer;
         Answered {
-            monitor: self.with_state(next),
+            monitor: self.with_state(after),
             answer,
         }
     }
@@ -134,32 +108,20 @@ impl Monitor {
         let state = self.state;
         let s: &[u8] = &self.bytes;
         let live: &[u8] = &self.live;
-        let head = state.head;
-        let cs = state.actions;
-        let rs = state.requests;
-        let mut ds = state.slots;
-        let mut set = [0u64; sets::SIZE];
-        let mut next = [0u64; sets::SIZE];
-        let step = head.collect(&s[..size], live, &cs, &rs, &mut ds, t, &mut set, &mut next);
-        let after = step.head;
-        let answer = step.answer;
-        let next = State {
-            head: after,
-            actions: cs,
-            requests: rs,
-            slots: ds,
-        };
+        let moved = state.collect(&s[..size], live, t);
+        let after = moved.state;
+        let answer = moved.answer;
         Answered {
-            monitor: self.with_state(next),
+            monitor: self.with_state(after),
             answer,
         }
     }
 
     // The lamp as it is stored. Of a box it says whether no run of further actions could get one more scheduled.
     pub fn lamp(self) -> Answered
-        ensures { (result ≡ record { monitor = self; answer = cond self.state.head.lit Lit Dark }) × (Valid self → CallRight self lamp result) }
+        ensures { (result ≡ record { monitor = self; answer = cond self.state.lit Lit Dark }) × (Valid self → CallRight self lamp result) }
     {
-        if self.state.head.lit {
+        if self.state.lit {
             return Answered {
                 monitor: self,
                 answer: Answer::Lit,

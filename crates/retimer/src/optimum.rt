@@ -3,13 +3,13 @@ ghost use Rattle.std.specs.Prelude.{◌≡◌, true, false, ◌+◌, ◌≤◌, 
 ghost use Rattle.retimer.specs.Readings.{Standing};
 ghost use Rattle.retimer.specs.Costs.{Known, Ground};
 ghost use Rattle.retimer.specs.Optimum.{Asked, PlanRight};
-ghost use Rattle.retimer.specs.Dates.{few_actions, few_places, AheadRight, Dating, Written};
+ghost use Rattle.retimer.specs.Dates.{few_actions, AheadRight, Dating, Written};
 
 use crate::limits::Monitor;
 use crate::{clocks, costs, layers, lookup};
 
 // The least ticks of a list of actions, and the configuration after them.
-#[derive(Drop)]
+#[derive(Clone, Copy)]
 pub struct Planned {
     pub value: u16,
     pub location: u8,
@@ -17,14 +17,14 @@ pub struct Planned {
 }
 
 // A configuration.
-#[derive(Drop)]
+#[derive(Clone, Copy)]
 struct Reached {
     location: u8,
     readings: [u8; 2],
 }
 
 // Where an action leads that is played now, and the cost from there. Where the cost is that of no correction, the configuration means nothing.
-#[derive(Drop)]
+#[derive(Clone, Copy)]
 struct Ahead {
     cost: u16,
     location: u8,
@@ -34,7 +34,7 @@ struct Ahead {
 // The most actions of a short list, and the places of a memo for a short list and for any.
 const FEW: usize = 5;
 
-pub const FEW_PLACES: usize = (FEW - 1) * Monitor::COUNT * Monitor::WIDTH;
+const FEW_PLACES: usize = (FEW - 1) * Monitor::COUNT * Monitor::WIDTH;
 
 const PLACES: usize = (Monitor::BATCH - 1) * Monitor::COUNT * Monitor::WIDTH;
 
@@ -210,7 +210,7 @@ fn plan_many<'a>(
 }
 
 // The least ticks of a list that has a correction, its dates from t on, and the configuration after them.
-fn plan_fresh<'a>(s: &'a [u8], cs: &'a [u8], l: u8, r: [u8; 2], t: u32, out: &mut [u32]) -> Planned
+pub fn plan<'a>(s: &'a [u8], cs: &'a [u8], l: u8, r: [u8; 2], t: u32, out: &mut [u32]) -> Planned
     requires { Asked s.now cs.now l r t out.old }
     ensures { PlanRight s.now cs.now l r t out.old out.new result }
 {
@@ -222,20 +222,4 @@ fn plan_fresh<'a>(s: &'a [u8], cs: &'a [u8], l: u8, r: [u8; 2], t: u32, out: &mu
         return plan_few(s, cs, l, r, t, out, &mut none, false);
     }
     plan_many(s, cs, l, r, t, out, &mut none, false)
-}
-
-pub fn plan<'a>(
-    s: &'a [u8],
-    cs: &'a [u8],
-    l: u8,
-    r: [u8; 2],
-    t: u32,
-    out: &mut [u32],
-    first: &mut [u16],
-    second: &mut [u16],
-) -> Planned
-    requires { (Asked s.now cs.now l r t out.old) × ((length first.old ≡ few_places) × (length second.old ≡ few_places)) }
-    ensures { PlanRight s.now cs.now l r t out.old out.new result }
-{
-    plan_fresh(s, cs, l, r, t, out)
 }

@@ -12,7 +12,7 @@ ghost use Rattle.retimer.specs.Next.{Opens, LeadsLive, LeadsAsked};
 use crate::{bytes, clocks, liveness, waits};
 
 // What a list of actions comes to. Where it is dead: whether the lamp is lit with the actions without the last.
-#[derive(Drop)]
+#[derive(Clone, Copy)]
 pub enum Outlook {
     Correct,
     Extensible,

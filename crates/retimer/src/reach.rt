@@ -5,7 +5,7 @@ ghost use Rattle.enforcement.specs.Model.{prospect, compile};
 ghost use Rattle.enforcement.specs.Monitor.{is_dead, is_lit};
 ghost use Rattle.retimer.specs.Readings.{located};
 ghost use Rattle.retimer.specs.Optimum.{LampAsked};
-ghost use Rattle.retimer.specs.Sets.{Blank, Empty};
+ghost use Rattle.retimer.specs.Sets.{Empty};
 ghost use Rattle.retimer.specs.Outlook.{outlook_of, front_of, Rated, RatedLast, SetAsked, Searched};
 
 use crate::outlook::Outlook;
@@ -93,7 +93,7 @@ fn outlook_two_clocks(s: &[u8], live: &[u8], cs: &[u8], l: u8, r: [u8; 2]) -> Ou
 }
 
 // What a list of actions comes to from a configuration.
-fn outlook_fresh<'a>(s: &'a [u8], live: &'a [u8], cs: &[u8], l: u8, r: [u8; 2]) -> Outlook
+pub fn outlook_of<'a>(s: &'a [u8], live: &'a [u8], cs: &[u8], l: u8, r: [u8; 2]) -> Outlook
     requires { (LampAsked s.now live.now l r) × (0 < length cs.now) }
     ensures { result ≡ outlook_of (prospect (compile s.now) cs.now (located l r)) (is_lit (compile s.now) (located l r) (front_of cs.now)) }
 {
@@ -111,25 +111,10 @@ pub fn is_dead<'a>(s: &'a [u8], live: &'a [u8], cs: &[u8], l: u8, r: [u8; 2]) ->
     requires { (LampAsked s.now live.now l r) × (0 < length cs.now) }
     ensures { result ≡ is_dead (prospect (compile s.now) cs.now (located l r)) }
 {
-    let o = outlook_fresh(s, live, cs, l, r);
+    let o = outlook_of(s, live, cs, l, r);
     match o {
         Outlook::Correct => false,
         Outlook::Extensible => false,
         Outlook::Dead { lit: _ } => true,
     }
-}
-
-pub fn outlook_of<'a>(
-    s: &'a [u8],
-    live: &'a [u8],
-    cs: &[u8],
-    l: u8,
-    r: [u8; 2],
-    set: &mut [u64],
-    next: &mut [u64],
-) -> Outlook
-    requires { ((LampAsked s.now live.now l r) × (0 < length cs.now)) × ((Blank set.old) × (Blank next.old)) }
-    ensures { (result ≡ outlook_of (prospect (compile s.now) cs.now (located l r)) (is_lit (compile s.now) (located l r) (front_of cs.now))) × ((Blank set.new) × (Blank next.new)) }
-{
-    outlook_fresh(s, live, cs, l, r)
 }

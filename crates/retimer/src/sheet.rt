@@ -10,7 +10,7 @@ use crate::limits::Monitor;
 use crate::reason::Reason;
 
 // The figures of the desk program's first line.
-#[derive(Drop)]
+#[derive(Clone, Copy)]
 pub struct Counts {
     pub locations: u8,
     pub clocks: u8,
@@ -20,7 +20,7 @@ pub struct Counts {
 }
 
 // The answer of the check: the figures, or why the sheet or its loading date is refused.
-#[derive(Drop)]
+#[derive(Clone, Copy)]
 pub enum Checked {
     Accepted(Counts),
     Refused(Reason),

@@ -1,7 +1,7 @@
 -- The configurations that a transition takes into the rows: the saturated one, and the loop over second readings.
 -- Assumes nothing.
 use mathlib.Core.Path.{◌≡◌, refl, ap, ap₂, sym, ◌∙◌}
-use mathlib.Core.Bool.{Bool, true, false, cond, ◌||◌, ◌&&◌, and_true, and_false, or-false, false≢true, true≢false}
+use mathlib.Core.Bool.{Bool, true, false, cond, ◌||◌, ◌&&◌, and-true, and-false, or-false, false≢true, true≢false}
 use mathlib.Core.List.{List}
 use Prim.Native.Nat.{ℕ, ◌+◌, ◌*◌, ◌-◌, ◌/◌, ◌%◌, ◌≤◌, ◌<◌, min, max}
 use native.Mathlib.Omega.{arith}
@@ -17,7 +17,7 @@ use Rattle.retimer.specs.Row.{Spread}
 use Rattle.retimer.specs.Readings.{past}
 use Rattle.retimer.specs.Sets.{Columns}
 use Rattle.retimer.specs.Leading.{all_rows, member, slack, kept_first, kept_second, leads, Leading, RowAdded, Others, TransitionAdded}
-use Rattle.enforcement.proofs.Bits.{bit_or, bit_and, bit_lowest}
+use Rattle.enforcement.proofs.Bits.{bit_of_or, bit_of_and, bit_lowest}
 use Rattle.retimer.proofs.sets.Bounding.{within_above, within_below, within_inside, columns_bit}
 use Rattle.retimer.proofs.Valuations.{cond_most}
 use Rattle.retimer.proofs.sets.Tables.{apart}
@@ -39,7 +39,7 @@ module _ (t : List ℕ) (target resets y k : ℕ) (e : k ≡ cond (eqb (resets /
 -- A second reading out of bounds.
 leads_out : (t : List ℕ) (v : Transition) (x y : ℕ) → within v.low2 v.high2 y ≡ false → leads t v x y ≡ false
 unfolding leads
-leads_out t v x y e = rw (e, and_false (within v.low1 v.high1 x)) refl
+leads_out t v x y e = rw (e, and-false (within v.low1 v.high1 x)) refl
 
 module _ (t : List ℕ) (v : Transition) where
   pub saturated_stops : enabled v top top ≡ false → false ≡ leads t v top top
@@ -100,9 +100,9 @@ module _ {t u w : List ℕ} {l : ℕ} {v : Transition} {y m n r : ℕ} {b c : Bo
   here x p =
       let q : member u v.target (kept_first v x) (kept_second v (y - 1)) ≡ member t v.target (kept_first v x) (kept_second v (y - 1)) = ap (λ (n : ℕ). bit n (kept_first v x)) (row_same v.target (kept_second v (y - 1)) (cond_most (bit v.resets 1) (y - 1) top (omega arith)) (λ _. omega (arith, cond_most (bit v.resets 1) (y - 1) (y - 1) (omega arith)))) in
       ap (λ (n : ℕ). bit n x) stored_here
-      ∙ bit_or (get_or u i 0) (bit_and m r) x
+      ∙ bit_of_or (get_or u i 0) (bit_and m r) x
       ∙ ap₂ (λ (d e : Bool). d || e) (ap (λ (n : ℕ). bit n x) (f.below (y - 1) (omega arith)))
-      (bit_and m r x ∙ ap₂ (λ (d e : Bool). d && e) (columns_bit cols x p ∙ sym (and_true (within v.low1 v.high1 x)) ∙ ap (λ (d : Bool). within v.low1 v.high1 x && d) (sym (within_inside v.low2 v.high2 (y - 1) (omega arith) (omega arith) (omega arith)))) (lead.bits x p ∙ ap (λ (k : ℕ). member u k (kept_first v x) (kept_second v (y - 1))) e ∙ q))
+      (bit_of_and m r x ∙ ap₂ (λ (d e : Bool). d && e) (columns_bit cols x p ∙ sym (and-true (within v.low1 v.high1 x)) ∙ ap (λ (d : Bool). within v.low1 v.high1 x && d) (sym (within_inside v.low2 v.high2 (y - 1) (omega arith) (omega arith) (omega arith)))) (lead.bits x p ∙ ap (λ (k : ℕ). member u k (kept_first v x) (kept_second v (y - 1))) e ∙ q))
 
   above_next : (x k : ℕ) → x ≤ top → y - 1 ≤ k → k ≤ top → member w l x k ≡ (member t l x k || leads t v x k)
   above_next x k p q o = go (eqb k (y - 1)) refl

@@ -18,7 +18,7 @@ use Rattle.enforcement.specs.Model.{top, width}
 use Rattle.retimer.specs.Row.{TickBefore, UpTo}
 use Rattle.retimer.specs.Counts.{Closed}
 use Rattle.retimer.specs.Leading.{all_rows, member, slack, Others, Waits, WaitsAdded}
-use Rattle.enforcement.proofs.Bits.{bit_or, or_grows, or_cases, or_shown}
+use Rattle.enforcement.proofs.Bits.{bit_of_or, or_grows, or_cases, or_shown}
 use Rattle.retimer.proofs.sets.Tables.{apart, slack_grows}
 
 -- The rows from y on have gained what they are to gain, the others are as they were; r is the row y, or up to the highest of the last one.
@@ -119,7 +119,7 @@ module _ {t u : List ℕ} {l y r v : ℕ} (sized : length t ≡ all_rows) (in_ra
   above_same x k h = ap (λ (n : ℕ). bit n x) (row_other (l * width + k) (λ z. omega arith))
 
   now_bit : (x : ℕ) → x ≤ top → bit now x ≡ (member t l x (y - 1) || bit r (min (x + 1) top))
-  now_bit x h = bit_or (get_or u at 0) v x ∙ ap₂ (λ (d e : Bool). d || e) (ap (λ (n : ℕ). bit n x) (f.below (y - 1) (omega arith))) (a.bits x h)
+  now_bit x h = bit_of_or (get_or u at 0) v x ∙ ap₂ (λ (d e : Bool). d || e) (ap (λ (n : ℕ). bit n x) (f.below (y - 1) (omega arith))) (a.bits x h)
 
   later : min y top ≡ min (y - 1 + 1) top
   later = omega arith

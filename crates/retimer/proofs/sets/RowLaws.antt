@@ -1,7 +1,7 @@
 -- Laws of the operations on a row.
 -- Assumes nothing.
 use mathlib.Core.Path.{◌≡◌, refl, ap, sym, ◌∙◌}
-use mathlib.Core.Bool.{Bool, true, false, ◌||◌, and_true, and_false, or-false}
+use mathlib.Core.Bool.{Bool, true, false, ◌||◌, and-true, and-false, or-false}
 use mathlib.Core.Logic.{◌⊎◌, inl, inr, ⊎_elim, ◌↔◌}
 use Prim.Native.Nat.{ℕ, zero, suc, ◌+◌, ◌*◌, ◌-◌, ◌/◌, ◌%◌, ◌^◌, ◌≤◌, ◌<◌, min}
 use native.Mathlib.Omega.{arith}
@@ -13,7 +13,7 @@ use lib.Count.{count_leading_zeros, leading_length, count_trailing_zeros}
 use borrow.Author.Tests.{eq-eqb, ne_eqb, eqb-true, eqb-false, ltb-true, ltb-false}
 use Rattle.enforcement.specs.Automaton.{bit}
 use Rattle.enforcement.specs.Model.{top, width}
-use Rattle.enforcement.proofs.Bits.{bit_or, bit_and, bit_none, bit_shifted, bit_low, bit_high, bit_power, bit_ones, bit_lowest, bit_half, none_in, in_below, in_or, in_and, in_without, interval_in, power_in, low_in, double_in, Lowest, lowest_is}
+use Rattle.enforcement.proofs.Bits.{bit_of_or, bit_of_and, bit_none, bit_shifted, bit_low, bit_high, bit_power, bit_ones, bit_lowest, bit_half, none_in, in_below, in_or, in_and, in_without, interval_in, power_in, low_in, double_in, Lowest, lowest_is}
 use Rattle.retimer.specs.Row.{In, Interval, TickAfter, Upward, Fresh, TickBefore, UpTo, Spread, Gaps, Highest}
 
 -- ---- Intervals
@@ -88,17 +88,17 @@ fresh_right row before h = record {
 -- ---- A tick before
 
 pub before_right : (r : ℕ) → TickBefore r (bit_or ((r / 2 ^ 1) % 2 ^ top) (bit_and r (2 ^ top)))
-before_right r = record { bits = λ x h. bit_or ((r / 2 ^ 1) % 2 ^ top) (bit_and r (2 ^ top)) x ∙ go x h (eqb x top) refl }
+before_right r = record { bits = λ x h. bit_of_or ((r / 2 ^ 1) % 2 ^ top) (bit_and r (2 ^ top)) x ∙ go x h (eqb x top) refl }
   where
     go : (x : ℕ) → x ≤ top → (b : Bool) → eqb x top ≡ b → (bit ((r / 2 ^ 1) % 2 ^ top) x || bit (bit_and r (2 ^ top)) x) ≡ bit r (min (x + 1) top)
     go x h true e =
         let d : x ≡ top = eqb-true x top e in
         let m : min (x + 1) top ≡ x = omega arith in
-        rw (bit_high (r / 2 ^ 1) top x (omega arith), bit_and r (2 ^ top) x, bit_power top x, e, and_true (bit r x), m) refl
+        rw (bit_high (r / 2 ^ 1) top x (omega arith), bit_of_and r (2 ^ top) x, bit_power top x, e, and-true (bit r x), m) refl
     go x h false e =
         let d = eqb-false x top e in
         let m : min (x + 1) top ≡ 1 + x = omega arith in
-        rw (bit_low (r / 2 ^ 1) top x (omega arith), bit_shifted r 1 x, bit_and r (2 ^ top) x, bit_power top x, e, and_false (bit r x), or-false (bit r (1 + x)), m) refl
+        rw (bit_low (r / 2 ^ 1) top x (omega arith), bit_shifted r 1 x, bit_of_and r (2 ^ top) x, bit_power top x, e, and-false (bit r x), or-false (bit r (1 + x)), m) refl
 
 -- ---- Reading 0 alone
 

@@ -1,0 +1,12 @@
+-- `transitions::put_at` meets its contract: those put and those ahead are all.
+-- Assumes nothing.
+use Rattle.enforcement.specs.Automaton.{locations}
+use Rattle.product.specs.Rows.{row_transitions}
+use Rattle.product.proofs.Putting.{Laying}
+use Rattle.product.proofs.transitions.put_at.Given as goal
+
+abbrev pub invariant-loop-left : goal.invariant-loop-left
+invariant-loop-left l = Laying l.first (locations l.second) (row_transitions l.second l.b) l.initial.out l.at l.initial.left l.initial.p l.out l.end l.left l.p
+
+abbrev pub decreases-loop-left : goal.decreases-loop-left
+decreases-loop-left l = l.left
