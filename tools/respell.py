@@ -3,7 +3,8 @@
 
 Run once at the top of the repository. A name that is declared in crates/*/specs or in a file of lemmas (crates/*/proofs, but for the folders of single
 functions) and has a dash or an inner capital becomes its words joined by underscores, wherever it stands in an .antt file, in a clause of an .rt file, or in an
-edit. In prose it is turned only between backticks. Names of Rust code, strings, inputs and outputs stay. It stops where two names would fall together.
+edit. In prose it is turned only between backticks. Rust code, inputs and outputs stay. It names each pair that would fall together, and turns strings of .antt
+files too: look at both afterwards.
 """
 
 import glob
