@@ -1,4 +1,5 @@
 // The course sheets A to E of document 01 as constant tables.
+// They stay five functions: each promises its own definition, and the table of the keys (specs/Questions) cites those.
 #![tactic(auto)]
 
 ghost use Rattle.std.specs.Prelude.{◌≡◌};

@@ -3,15 +3,13 @@
 use mathlib.Core.Path.{◌≡◌, refl, sym, ap, ◌∙◌}
 use mathlib.Core.Bool.{Bool, cond}
 use mathlib.Core.List.{List, [], ◌++◌, append_assoc}
-use Prim.Native.Nat.{ℕ, zero, suc, ◌+◌, ◌-◌, ◌*◌, ◌≤◌, ◌<◌, min}
+use Prim.Native.Nat.{ℕ, zero, suc, ◌-◌, ◌≤◌, ◌<◌, min}
 use native.Mathlib.Omega.{arith}
 use lib.ListN.{length}
 use borrow.Author.Tests.{lt-ltb, le-ltb}
 use Rattle.drafting.specs.declared.script.Entry.{Entry}
 use Rattle.drafting.specs.Numerals.{first_digit}
-use Rattle.drafting.specs.Scripts.{Put, entry_at, call_of, repeated, calls_from, fitting, entry_bytes}
-use Rattle.drafting.proofs.Filling.{Filling, full, after, as_bytes}
-use Rattle.drafting.proofs.RoomLaws.{done, past}
+use Rattle.drafting.specs.Scripts.{entry_at, call_of, repeated, calls_from}
 
 module _ (call : List ℕ) where
   pub once_more : (n m : ℕ) → n ≡ suc m → repeated n call ≡ call ++ repeated m call
@@ -38,15 +36,6 @@ module _ (call : List ℕ) where
       let m : suc room - suc left ≡ room - left = omega arith in
       ap (λ (l : List ℕ). call ++ l) (left_first room left s i) ∙ sym (append_assoc call (repeated (min left room) call) (calls_from (room - left) s [] 0 i))
       ∙ sym (λ t. repeated (k t) call ++ calls_from (m t) s [] 0 i)
-
--- An entry is put once its calls are, and none is left.
-pub entry_put : {x y z : List ℕ} (at end left : ℕ) (e : Entry) → Put x at (call_of e) y (at + 5) → length y ≡ length x → end + 5 * left ≡ at + 5 + 5 * fitting (e.times - 1) (length y) (at + 5) → Filling y (at + 5) (repeated (fitting (e.times - 1) (length y) (at + 5)) (call_of e)) (repeated left (call_of e)) z end → left ≡ 0 → (end ≡ at + 5 + 5 * fitting (e.times - 1) (length x) (at + 5)) × (Put x at (entry_bytes (length x) at e) z end)
-entry_put {x} {y} {z} at end left e p same size f none =
-    let call = call_of e in
-    let ends = done end (at + 5 + 5 * fitting (e.times - 1) (length y) (at + 5)) left none size in (
-      ends ∙ ap (λ (k : ℕ). at + 5 + 5 * fitting (e.times - 1) k (at + 5)) same,
-      as_bytes (after p (past end (at + 5) (5 * fitting (e.times - 1) (length y) (at + 5)) ends) (full f (no_more call left none))) (ap (λ (k : ℕ). call ++ repeated (fitting (e.times - 1) k (at + 5)) call) same),
-    )
 
 module _ (s : List ℕ) (i : ℕ) where
   -- The calls from the entry at a place on.

@@ -37,13 +37,13 @@ module _ {x y z all left b more : List ℕ} {at m n : ℕ} where
     rest = p.rest ∙ later x y m n h f.rest;
   }
 
+-- The same end, written otherwise.
+pub ending : {x z all left : List ℕ} {at m n : ℕ} → Filling x at all left z m → m ≡ n → Filling x at all left z n
+ending {x} {z} {all} {left} {at} {m} {n} f e = subst (λ (k : ℕ). Filling x at all left z k) e f
+
 -- Nothing is left.
 pub full : {x z all left : List ℕ} {at n : ℕ} → Filling x at all left z n → left ≡ [] → Put x at all z n
 full {x} {z} {all} {left} {at} {n} f e = record { front = sym (append-nil (take n z)) ∙ sym (ap (λ (l : List ℕ). take n z ++ l) e) ∙ f.front; rest = f.rest }
-
--- One piece after another.
-pub after : {x y z a b : List ℕ} {at m n : ℕ} → Put x at a y m → m ≤ n → Put y m b z n → Put x at (a ++ b) z n
-after {x} {y} {z} {a} {b} {at} {m} {n} p h q = record { front = q.front ∙ ap (λ (l : List ℕ). l ++ b) p.front ∙ append_assoc (take at x) a b; rest = q.rest ∙ later x y m n h p.rest }
 
 pub as_bytes : {x a b y : List ℕ} {at end : ℕ} → Put x at a y end → a ≡ b → Put x at b y end
 as_bytes {x} {a} {b} {y} {at} {end} p e = subst (λ (t : List ℕ). Put x at t y end) e p

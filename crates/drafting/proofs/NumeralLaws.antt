@@ -1,14 +1,12 @@
 -- The number at a place of a text, as a loop reads it.
 -- Assumes nothing.
-use mathlib.Core.Path.{◌≡◌, refl, sym, ap, ◌∙◌}
-use mathlib.Core.Bool.{Bool, true, false, cond, not, ◌&&◌}
+use mathlib.Core.Path.{◌≡◌, sym, ap, ◌∙◌}
+use mathlib.Core.Bool.{Bool, true, false, cond, not}
 use mathlib.Core.List.{List}
 use Prim.Native.Nat.{ℕ, suc, ◌+◌, ◌≤◌, ◌<◌}
 use native.Mathlib.Numerals.{add-one}
-use lib.Dec.{leb}
 use lib.ListN.{length, get_or, drop, drop_of_length-le}
 use lib.Seq.{drop-cons}
-use borrow.Author.Tests.{leb-true}
 use Rattle.drafting.specs.Places.{first_from}
 use Rattle.drafting.specs.Numerals.{is_digit, is_other, with_digit, value_on, numeral_at}
 use Rattle.drafting.proofs.PlaceLaws.{holds, fails, over}
@@ -17,9 +15,6 @@ use Rattle.drafting.proofs.PlaceLaws.{holds, fails, over}
 pub record Reading (s : List ℕ) (from n i : ℕ) : Type 0 where
   pub value : value_on n (drop i s) ≡ value_on 0 (drop from s)
   pub end : first_from is_other s i ≡ first_from is_other s from
-
-pub nothing_read : (s : List ℕ) (from : ℕ) → Reading s from 0 from
-nothing_read s from = record { value = refl; end = refl }
 
 module _ {s : List ℕ} {from n i : ℕ} (w : Reading s from n i) where
   -- A digit more.
@@ -47,10 +42,3 @@ module _ {s : List ℕ} {from n i : ℕ} (w : Reading s from n i) where
   pub text_ends : length s ≤ i → record { value = n; end = length s } ≡ numeral_at s from
   unfolding value_on
   text_ends h = ends (length s) (ap (value_on n) (drop_of_length-le s h)) (over is_other s i h)
-
-left_true : (a b : Bool) → a && b ≡ true → a ≡ true
-left_true true b e = refl
-left_true false b e = e
-
-pub digit_low : (b : ℕ) → is_digit b ≡ true → 48 ≤ b
-digit_low b e = leb-true 48 b (left_true (leb 48 b) (leb b 57) e)

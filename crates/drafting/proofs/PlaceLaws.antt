@@ -3,7 +3,7 @@
 use mathlib.Core.Path.{◌≡◌, refl, sym, ap, ◌∙◌}
 use mathlib.Core.Bool.{Bool, true, false, cond}
 use mathlib.Core.List.{List, [], ◌∷◌}
-use Prim.Native.Nat.{ℕ, zero, suc, ◌+◌, ◌≤◌, ◌<◌}
+use Prim.Native.Nat.{ℕ, zero, suc, ◌+◌, ◌≤◌, ◌<◌, min}
 use native.Mathlib.Omega.{arith}
 use native.Mathlib.Numerals.{add-one}
 use lib.ListN.{length, get_or}
@@ -33,3 +33,15 @@ module _ (p : ℕ → Bool) where
   over [] i h = refl
   over (b ∷ s) zero h = absurd (omega arith)
   over (b ∷ s) (suc i) h = ap suc (over s i (omega arith))
+
+  -- The place from which on it fails up to a place where it holds or the text is over.
+  pub first_is : (s : List ℕ) (i n : ℕ) → n ≤ length s → min i (length s) ≤ n → ((k : ℕ) → i ≤ k → k < n → p (get_or s k 0) ≡ false) → (n < length s → p (get_or s n 0) ≡ true) → n ≡ first_from p s i
+  unfolding first_from
+  first_is [] i n h low before found = omega arith
+  first_is (b ∷ s) (suc i) zero h low before found = absurd (omega arith)
+  first_is (b ∷ s) (suc i) (suc n) h low before found =
+      ap suc (first_is s i n (omega arith) (omega arith) (λ k h m. before (suc k) (omega arith) (omega arith)) (λ m. found (omega arith)))
+  first_is (b ∷ s) zero zero h low before found = ap (λ (t : Bool). cond t 0 (suc (first_from p s 0))) (sym (found (omega arith)))
+  first_is (b ∷ s) zero (suc n) h low before found =
+      ap suc (first_is s 0 n (omega arith) (omega arith) (λ k h m. before (suc k) (omega arith) (omega arith)) (λ m. found (omega arith)))
+      ∙ sym (ap (λ (t : Bool). cond t 0 (suc (first_from p s 0))) (before 0 (omega arith) (omega arith)))

@@ -2,7 +2,7 @@
 -- Assumes nothing.
 use mathlib.Core.Path.{◌≡◌, sym}
 use mathlib.Core.List.{List}
-use Prim.Native.Nat.{ℕ, suc, ◌+◌, ◌-◌, ◌*◌, ◌/◌, ◌≤◌, ◌<◌}
+use Prim.Native.Nat.{ℕ, suc, ◌+◌, ◌-◌, ◌*◌, ◌/◌, ◌≤◌, min, max}
 use native.Mathlib.Omega.{arith}
 use lib.ListN.{length}
 use lib.Seq.{length-take-le}
@@ -13,14 +13,9 @@ module _ (size at : ℕ) where
   pub room_one : at + 5 ≤ size → (size - at) / 5 ≡ suc ((size - (at + 5)) / 5)
   room_one h = omega arith
 
-  pub one_fits : (n : ℕ) → 1 < n → at + 5 ≤ size → fitting (n - 1) size at ≡ suc (fitting (n - 1 - 1) size (at + 5))
-  one_fits n m h = omega (arith, room_one h)
-
-  pub none_fits : (n : ℕ) → size < at + 5 → fitting n size at ≡ 0
-  none_fits n h = omega arith
-
-  pub none_left : (n : ℕ) → n ≤ 1 → fitting (n - 1) size at ≡ 0
-  none_left n h = omega arith
+  -- An entry's call is put at least once, and further as often as it is made and there is room.
+  pub fitting_one : (times n : ℕ) → at + 5 ≤ size → n ≡ min (max times 1) ((size - at) / 5) → n ≡ suc (fitting (times - 1) size (at + 5))
+  fitting_one times n h e = omega (arith, room_one h)
 
   -- The room after calls.
   pub room_after : (n end : ℕ) → at ≤ size → end ≡ at + 5 * fitting n size at → (size - end) / 5 ≡ (size - at) / 5 - n
@@ -30,12 +25,6 @@ module _ (size at : ℕ) where
   inside n end h e = omega arith
 
 -- Sums with any number of calls: for `fitting` itself `omega` would try every case.
-pub five_more : (a b : ℕ) → a + 5 + 5 * b ≡ a + 5 * suc b
-five_more a b = omega arith
-
-pub done : (a b n : ℕ) → n ≡ 0 → a + 5 * n ≡ b → a ≡ b
-done a b n e h = omega arith
-
 pub past : (a b n : ℕ) → a ≡ b + n → b ≤ a
 past a b n h = omega arith
 

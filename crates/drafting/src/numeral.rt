@@ -21,14 +21,7 @@ fn is_digit(b: u8) -> bool
 pub fn first_digit(text: &[u8], from: usize) -> usize
     ensures { result ≡ first_digit text.now from }
 {
-    let mut i = from;
-    while i < text.len() {
-        if is_digit(text[i]) {
-            return i;
-        }
-        i += 1;
-    }
-    text.len()
+    field::first(text, from, |b| is_digit(b))
 }
 
 // A number with a digit after it. A digit that would make it too long is passed over.
@@ -39,7 +32,7 @@ fn with_digit(n: u64, b: u8) -> u64
     if 1_000_000_000_000 <= n {
         return n;
     }
-    n * 10 + (b - b'0') as u64
+    n * 10 + u64::from(b - b'0')
 }
 
 // The number whose digits begin at a place.
@@ -47,14 +40,12 @@ pub fn number_at(text: &[u8], from: usize) -> Numeral
     ensures { result ≡ numeral_at text.now from }
 {
     let mut value: u64 = 0;
-    let mut i = from;
-    while i < text.len() {
+    for i in from..text.len() {
         let b = text[i];
         if !is_digit(b) {
             return Numeral { value, end: i };
         }
         value = with_digit(value, b);
-        i += 1;
     }
     Numeral {
         value,

@@ -12,7 +12,7 @@ const CALL: usize = 5;
 fn low(n: u64) -> u8
     ensures { result ≡ n % 256 }
 {
-    (n % 256) as u8
+    n.to_le_bytes()[0]
 }
 
 // The numbers of a text as bytes, as many as the buffer has places; answers how many.
@@ -21,6 +21,7 @@ pub fn bytes_of(text: &[u8], out: &mut [u8]) -> usize
 {
     let mut n: usize = 0;
     let mut i = numeral::first_digit(text, 0);
+    // A `for` is no plainer: each turn goes on where the number that it read ends.
     while i < text.len() && n < out.len() {
         let next = numeral::number_at(text, i);
         out[n] = low(next.value);
@@ -43,16 +44,11 @@ struct Entry {
 fn is_times(text: &[u8], at: usize) -> bool
     ensures { result ≡ is_times text.now at }
 {
-    if text.len() < 2 {
-        return false;
-    }
-    if text.len() - 2 < at {
-        return false;
-    }
-    text[at] == b' ' && text[at + 1] == b'x'
+    at <= text.len() && text[at..].starts_with(b" x")
 }
 
 // An action and its date, from a place on.
+#[tactic(auto, unfolding(crate::specs::Scripts::call_from))]
 fn call_from(text: &[u8], at: usize, times: u64) -> Entry
     ensures { result ≡ call_from text.now at times }
 {
@@ -68,6 +64,7 @@ fn call_from(text: &[u8], at: usize, times: u64) -> Entry
 }
 
 // The call whose digits begin at a place, as "0 at 4", or "17 x 0 at 4" for seventeen of them.
+#[tactic(auto, unfolding(crate::specs::Scripts::entry_at))]
 fn entry_at(text: &[u8], at: usize) -> Entry
     ensures { result ≡ entry_at text.now at }
 {
@@ -84,11 +81,8 @@ fn put_call(out: &mut [u8], at: usize, action: u64, date: u64)
     requires { at + 5 ≤ length out.old }
     ensures { Put out.old at (call_bytes action date) out.new (at + 5) }
 {
-    out[at] = low(action);
-    out[at + 1] = low(date);
-    out[at + 2] = low(date / 256);
-    out[at + 3] = low(date / 65_536);
-    out[at + 4] = low(date / 16_777_216);
+    let d = date.to_le_bytes();
+    out[at..at + CALL].copy_from_slice(&[low(action), d[0], d[1], d[2], d[3]]);
 }
 
 // Puts a call as often as it is made, but at least once and no oftener than there is room; answers the place after it.
@@ -96,17 +90,12 @@ fn put_entry(out: &mut [u8], at: usize, e: Entry) -> usize
     requires { at + 5 ≤ length out.old }
     ensures { (result ≡ at + 5 + 5 * fitting (e.times - 1) (length out.old) (at + 5)) × (Put out.old at (entry_bytes (length out.old) at e) out.new result) }
 {
-    let action = e.action;
-    let date = e.date;
-    let mut left = e.times;
-    put_call(out, at, action, date);
-    let mut end = at + CALL;
-    while 1 < left && end + CALL <= out.len() {
-        put_call(out, end, action, date);
-        end += CALL;
-        left -= 1;
+    let room = (out.len() - at) / CALL;
+    let n = e.times.max(1).min(room as u64) as usize;
+    for k in 0..n {
+        put_call(out, at + CALL * k, e.action, e.date);
     }
-    end
+    at + CALL * n
 }
 
 // The calls of a text as calls of five bytes, as many as there is room for; answers the size.
@@ -115,6 +104,7 @@ pub fn calls_of(text: &[u8], out: &mut [u8]) -> usize
 {
     let mut n: usize = 0;
     let mut i = numeral::first_digit(text, 0);
+    // A `for` is no plainer: each turn goes on where the entry that it read ends.
     while i < text.len() && n + CALL <= out.len() {
         let e = entry_at(text, i);
         let next = e.end;

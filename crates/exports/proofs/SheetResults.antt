@@ -1,62 +1,25 @@
 -- Answers about sheets as numbers for hosts.
 -- Assumes nothing.
-use mathlib.Core.Path.{◌≡◌, refl, sym, ap, ◌∙◌, subst}
+use mathlib.Core.Path.{◌≡◌, refl, sym, ap, ◌∙◌}
 use native.Mathlib.Omega.{arith}
-use mir.Syntax.{w32}
-use mir.Val.{SFits, to_z, of_z}
-use mir.Facts.{sfits_lit, to_z-of_z}
+use Rattle.std.specs.Prelude.{Result}
 use lib.IntN.{ℤ, pos, negsuc}
 use lib.ListN.{length}
 use Prim.Native.Nat.{ℕ}
 use Rattle.enforcement.specs.Automaton.{Bytes}
 use Rattle.enforcement.specs.Reason.{Reason, i_1, i_2, i_3, i_4, i_5, i_6, i_7, i_8, s_1, s_2, s_3, s_4, s_5}
-use Rattle.product.specs.declared.join.Answer.{Answer}
-use Rattle.product.specs.declared.join.Answer.TheVariants.{Joined}
+use Rattle.product.specs.declared.join.Refusal as code
 use Rattle.product.specs.Joining.{Refusal, i_9, i_12, i_13, i_14, of_first, of_second, Outcome, written, refused, answer, outcome_of, JoinRight, Delivered}
 use Rattle.product.proofs.Promises.{sheet_short, delivered}
 use Rattle.exports.specs.Sheets.{reason_result, join_result, Short, JoinExportRight}
-
--- A signed number that fits is handed out as its bits.
-reason_fits : (r : Reason) → SFits w32 (reason_result r)
-reason_fits i_1 = sfits_lit tt
-reason_fits i_2 = sfits_lit tt
-reason_fits i_3 = sfits_lit tt
-reason_fits i_4 = sfits_lit tt
-reason_fits i_5 = sfits_lit tt
-reason_fits i_6 = sfits_lit tt
-reason_fits i_7 = sfits_lit tt
-reason_fits i_8 = sfits_lit tt
-reason_fits s_1 = sfits_lit tt
-reason_fits s_2 = sfits_lit tt
-reason_fits s_3 = sfits_lit tt
-reason_fits s_4 = sfits_lit tt
-reason_fits s_5 = sfits_lit tt
-
-join_fits : (o : Outcome) → Short o → SFits w32 (join_result o)
-join_fits (written n) h = record { sfits = omega arith }
-join_fits (refused i_9) h = sfits_lit tt
-join_fits (refused (of_first r)) h = reason_fits r
-join_fits (refused (of_second r)) h = reason_fits r
-join_fits (refused i_12) h = sfits_lit tt
-join_fits (refused i_13) h = sfits_lit tt
-join_fits (refused i_14) h = sfits_lit tt
-
-pub length_fits : {a : Answer} {n : ℕ} → a ≡ Joined n → Short (outcome_of a) → SFits w32 (pos n)
-length_fits {n = n} e h = join_fits (written n) (subst (λ (x : Answer). Short (outcome_of x)) e h)
-
-pub reason_out : (n : ℤ) (r : Reason) → n ≡ reason_result r → to_z w32 (of_z w32 n) ≡ reason_result r
-reason_out n r e = ap (λ (z : ℤ). to_z w32 (of_z w32 z)) e ∙ to_z-of_z (reason_fits r)
 
 -- A length that is answered is short.
 short : (o : Outcome) (m : ℕ) (s u : Bytes) → o ≡ answer m s u → Short o
 short (written n) m s u e = sheet_short m n s u (sym e)
 short (refused r) m s u e = tt
 
-pub answer_short : {s u before after : Bytes} (a : Answer) → JoinRight s u before a after → Short (outcome_of a)
+pub answer_short : {s u before after : Bytes} (a : Result ℕ code.Refusal) → JoinRight s u before a after → Short (outcome_of a)
 answer_short {s} {u} {before} a j = short (outcome_of a) (length before) s u j.answered
-
-pub join_export : {s u before after : Bytes} (a : Answer) (r : ℤ) → JoinRight s u before a after → r ≡ join_result (outcome_of a) → JoinExportRight s u before (to_z w32 (of_z w32 r)) after
-join_export a r j e = record { returned = ap (λ (z : ℤ). to_z w32 (of_z w32 z)) e ∙ to_z-of_z (join_fits (outcome_of a) (answer_short a j)) ∙ ap join_result j.answered; output_right = j.output_right }
 
 -- ---- What a host can tell from the number
 

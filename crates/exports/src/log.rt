@@ -5,22 +5,22 @@ ghost use Rattle.logs.specs.Conversion.{outcome_of, sound_of};
 ghost use Rattle.exports.specs.Results.{result_of, ExportRight};
 
 use logs::convert;
-use logs::convert::Answer;
+use logs::convert::Refusal;
 use logs::format::Format;
 
-// The number that an answer is handed out as.
-fn result_of(a: Answer) -> i32
+// The number that an answer is handed out as; the C interface has no Result.
+fn result_of(a: Result<(), Refusal>) -> i32
     ensures { result ≡ result_of (outcome_of a) }
 {
     match a {
-        Answer::Converted => 0,
-        Answer::Length => -9,
-        Answer::Late(_) => -10,
-        Answer::Falling(_) => -11,
+        Ok(()) => 0,
+        Err(Refusal::Length) => -9,
+        Err(Refusal::Late(_)) => -10,
+        Err(Refusal::Falling(_)) => -11,
     }
 }
 
-// A log in dates to one in gaps.
+// A log in dates to one in gaps. The C interface: each format has functions of its own.
 #[unsafe(no_mangle)]
 pub extern "C" fn retimer_log_to_gaps(log: &[u8], out: &mut [u8]) -> i32
     ensures { ExportRight Dates log.now out.old result out.new }

@@ -6,10 +6,9 @@ ghost use Rattle.product.specs.Joining.{outcome_of};
 ghost use Rattle.exports.specs.Sheets.{reason_result, check_result, join_result, Short, JoinExportRight};
 
 use product::join;
-use product::join::Answer;
+use product::join::Refusal;
 use retimer::reason::Reason;
 use retimer::sheet;
-use retimer::sheet::Checked;
 
 // The number that a sheet's own refusal is handed out as.
 fn reason_result(r: Reason) -> i32
@@ -32,19 +31,18 @@ fn reason_result(r: Reason) -> i32
     }
 }
 
-// The number that an answer is handed out as.
-fn join_result(a: Answer) -> i32
+// The number that an answer is handed out as; the C interface has no Result.
+fn join_result(a: Result<usize, Refusal>) -> i32
     requires { Short (outcome_of a) }
     ensures { result ≡ join_result (outcome_of a) }
 {
     match a {
-        Answer::Joined(n) => n as i32,
-        Answer::Length => -9,
-        Answer::First(r) => reason_result(r),
-        Answer::Second(r) => reason_result(r),
-        Answer::Actions => -12,
-        Answer::Size => -13,
-        Answer::Transitions => -14,
+        Ok(n) => n as i32,
+        Err(Refusal::Length) => -9,
+        Err(Refusal::First(r) | Refusal::Second(r)) => reason_result(r),
+        Err(Refusal::Actions) => -12,
+        Err(Refusal::Size) => -13,
+        Err(Refusal::Transitions) => -14,
     }
 }
 
@@ -54,8 +52,8 @@ pub extern "C" fn retimer_sheet_check(sheet: &[u8]) -> i32
     ensures { result ≡ check_result (check sheet.now 0) }
 {
     match sheet::check(sheet, 0) {
-        Checked::Accepted(_) => 0,
-        Checked::Refused(r) => reason_result(r),
+        Ok(_) => 0,
+        Err(r) => reason_result(r),
     }
 }
 

@@ -57,28 +57,12 @@ fn ask_text(
     loaded: u32,
     calls: &[u8],
 ) -> io::Result<()> {
-    let letter = field::capital(sheet);
-    match letter {
-        b'A' => {
-            let s = course::sheet_a();
-            ask(rt, title, &s, loaded, calls)
-        }
-        b'B' => {
-            let s = course::sheet_b();
-            ask(rt, title, &s, loaded, calls)
-        }
-        b'C' => {
-            let s = course::sheet_c();
-            ask(rt, title, &s, loaded, calls)
-        }
-        b'D' => {
-            let s = course::sheet_d();
-            ask(rt, title, &s, loaded, calls)
-        }
-        b'E' => {
-            let s = course::sheet_e();
-            ask(rt, title, &s, loaded, calls)
-        }
+    match field::capital(sheet) {
+        Some(b'A') => ask(rt, title, &course::sheet_a(), loaded, calls),
+        Some(b'B') => ask(rt, title, &course::sheet_b(), loaded, calls),
+        Some(b'C') => ask(rt, title, &course::sheet_c(), loaded, calls),
+        Some(b'D') => ask(rt, title, &course::sheet_d(), loaded, calls),
+        Some(b'E') => ask(rt, title, &course::sheet_e(), loaded, calls),
         _ => ask_numbers(rt, title, sheet, loaded, calls),
     }
 }
@@ -111,11 +95,8 @@ fn ask_line(rt: &impl Print, loaded: u32, line: &[u8]) -> io::Result<()> {
 
 // A table of questions, one to a line, each on a box that is loaded at the date.
 pub fn ask_all_at(rt: &impl Print, loaded: u32, table: &[u8]) -> io::Result<()> {
-    let mut at: usize = 0;
-    while at < table.len() {
-        let end = field::find(table, at, b'\n');
-        ask_line(rt, loaded, &table[at..end])?;
-        at = end + 1;
+    for line in table.split_inclusive(|b| *b == b'\n') {
+        ask_line(rt, loaded, line)?;
     }
     Ok(())
 }

@@ -25,12 +25,8 @@ fn put_transition(sheet: &mut [u8], at: usize, i: u8)
 fn put_transitions(sheet: &mut [u8])
     requires { length sheet.old ≡ 525 }
 {
-    let mut i: u8 = 0;
-    let mut at: usize = 70;
-    while i < 64 {
-        put_transition(sheet, at, i);
-        at += 7;
-        i += 1;
+    for i in 0..64u8 {
+        put_transition(sheet, 70 + 7 * usize::from(i), i);
     }
 }
 

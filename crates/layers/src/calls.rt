@@ -1,7 +1,6 @@
 // The box's own calls, by value: a box that is loaded, holds a command, and is lit when its date has passed.
 use crate::{print, replay};
 use retimer::limits::Monitor;
-use retimer::sheet::Checked;
 use retimer::state::Answer;
 use std::io;
 
@@ -17,12 +16,9 @@ pub fn all(rt: &impl Print) -> io::Result<()> {
     let start = Monitor::load(&c, 0);
     let checked = start.checked;
     let b = start.monitor;
-    match checked {
-        Checked::Accepted(_) => {}
-        Checked::Refused(_) => {
-            return Ok(());
-        }
-    }
+    let Ok(_) = checked else {
+        return Ok(());
+    };
     print::word(rt, b"calls\n")?;
     let held = b.offer(0, 5);
     let held_answer = held.answer;

@@ -27,11 +27,9 @@ fn after_ticks(n: u32) -> [u8; 2]
     ensures { Readings result }
 {
     let mut r = [0u8; 2];
-    let mut i: u32 = 0;
-    while i < n {
+    for _ in 0..n {
         let next = clocks::wait(r);
         r = next;
-        i += 1;
     }
     r
 }

@@ -40,25 +40,32 @@ pub fn cases(rt: &impl Print) -> io::Result<()> {
     case(rt, Monitor::TOP, 254)
 }
 
-fn at_least(rt: &impl Print, low: u8, x: u8) -> io::Result<()> {
-    print::word(rt, b"at least")?;
-    print::byte(rt, low)?;
+// A comparison with one end, by its name.
+fn with_end<C: Fn(u8, u8) -> bool>(
+    rt: &impl Print,
+    name: &[u8],
+    end: u8,
+    x: u8,
+    compare: C,
+) -> io::Result<()>
+    requires { C.IsAlwaysCallable compare }
+{
+    print::word(rt, name)?;
+    print::byte(rt, end)?;
     print::byte(rt, x)?;
-    print::truth(rt, comparison::at_least(low, x))
+    print::truth(rt, compare(end, x))
+}
+
+fn at_least(rt: &impl Print, low: u8, x: u8) -> io::Result<()> {
+    with_end(rt, b"at least", low, x, comparison::at_least)
 }
 
 fn exactly(rt: &impl Print, low: u8, x: u8) -> io::Result<()> {
-    print::word(rt, b"exactly")?;
-    print::byte(rt, low)?;
-    print::byte(rt, x)?;
-    print::truth(rt, comparison::exactly(low, x))
+    with_end(rt, b"exactly", low, x, comparison::exactly)
 }
 
 fn at_most(rt: &impl Print, high: u8, x: u8) -> io::Result<()> {
-    print::word(rt, b"at most")?;
-    print::byte(rt, high)?;
-    print::byte(rt, x)?;
-    print::truth(rt, comparison::at_most(high, x))
+    with_end(rt, b"at most", high, x, comparison::at_most)
 }
 
 fn between(rt: &impl Print, low: u8, high: u8, x: u8) -> io::Result<()> {

@@ -5,16 +5,12 @@ ghost use Rattle.retimer.specs.Readings.{Standing};
 
 use retimer::limits::Monitor;
 use retimer::sheet;
-use retimer::sheet::Checked;
 
 // Whether a sheet has no refusal of its own.
 fn loads(s: &[u8]) -> bool
     ensures { result ≡ true → WellFormed s.now }
 {
-    let Checked::Accepted(_) = sheet::check(s, 0) else {
-        return false;
-    };
-    true
+    sheet::check(s, 0).is_ok()
 }
 
 // Whether a location and readings are a configuration of a well-formed sheet. With one clock the second reading counts as saturated.

@@ -11,10 +11,8 @@ use retimer::{liveness, optimum, reach};
 use std::io;
 
 fn print_dates(rt: &impl Print, dates: &[u32]) -> io::Result<()> {
-    let mut i: usize = 0;
-    while i < dates.len() {
-        print::date(rt, dates[i])?;
-        i += 1;
+    for t in dates {
+        print::date(rt, *t)?;
     }
     Ok(())
 }
@@ -69,7 +67,7 @@ fn plan<'a>(
     if !guarded::stands(s, l, x, y) {
         return Ok(());
     }
-    if cs.len() == 0 {
+    if cs.is_empty() {
         return Ok(());
     }
     if Monitor::BATCH < cs.len() {

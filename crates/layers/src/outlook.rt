@@ -19,7 +19,7 @@ fn comes_to<'a>(rt: &impl Print, s: &'a [u8], cs: &'a [u8], l: u8, x: u8, y: u8)
     if !guarded::stands(s, l, x, y) {
         return Ok(());
     }
-    if cs.len() == 0 {
+    if cs.is_empty() {
         return Ok(());
     }
     let table = liveness::live_table(s);

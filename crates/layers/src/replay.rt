@@ -3,7 +3,7 @@ use crate::print;
 use drafting::script;
 use marking::{block, desk};
 use report::line;
-use retimer::limits::{Monitor, Request, State};
+use retimer::limits::{Request, State};
 use retimer::replay;
 use retimer::state::Answer;
 use std::io;
@@ -22,36 +22,20 @@ fn print_number(rt: &impl Print, r: Request) -> io::Result<()> {
 
 // The held commands, each with its number and its offered date.
 fn print_pending(rt: &impl Print, q: State) -> io::Result<()> {
-    let requests = q.pending;
-    let n = q.held;
-    let mut i: usize = 0;
-    while i < n {
-        if Monitor::COUNT <= i {
-            return Ok(());
-        }
-        let r = requests[i];
+    for r in q.pending.iter().take(q.held) {
         print::byte(rt, r.action)?;
-        print_number(rt, r)?;
-        i += 1;
+        print_number(rt, *r)?;
     }
     Ok(())
 }
 
 // The scheduled commands, each with its date, its number and its offered date.
 fn print_schedule(rt: &impl Print, q: State) -> io::Result<()> {
-    let slots = q.schedule;
-    let n = q.planned;
-    let mut i: usize = 0;
-    while i < n {
-        if Monitor::SCHEDULED <= i {
-            return Ok(());
-        }
-        let e = slots[i];
+    for e in q.schedule.iter().take(q.planned) {
         let r = e.request;
         print::byte(rt, r.action)?;
         print::date(rt, e.date)?;
         print_number(rt, r)?;
-        i += 1;
     }
     Ok(())
 }

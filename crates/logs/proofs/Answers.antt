@@ -1,17 +1,19 @@
 -- What a conversion answers, by the lengths and the records.
 -- Assumes nothing.
-use mathlib.Core.Path.{◌≡◌, refl, ap, ◌∙◌}
+use mathlib.Core.Path.{◌≡◌, refl, sym, ap, ◌∙◌}
 use mathlib.Core.Bool.{Bool, true, false, ◌&&◌}
 use mathlib.Core.List.{List}
 use Prim.Native.Nat.{ℕ, ◌%◌}
+use Rattle.std.specs.Prelude.{Result, Ok, Err}
 use native.Mathlib.Omega.{arith}
 use lib.Dec.{eqb}
 use lib.ListN.{length}
 use borrow.Author.Tests.{eq-eqb, ne_eqb, eqb-true}
 use Rattle.enforcement.specs.Automaton.{Bytes}
 use Rattle.logs.specs.declared.format.Format.{Format}
-use Rattle.logs.specs.declared.convert.Answer.{Answer}
-use Rattle.logs.specs.Conversion.{Refusal, i_9, Outcome, converted, refused, unless, check_from, check, answer, output, outcome_of, ConvertRight}
+use Rattle.logs.specs.declared.convert.Refusal as code
+use Rattle.logs.specs.declared.convert.Refusal.TheVariants.{Length, Late, Falling}
+use Rattle.logs.specs.Conversion.{i_9, converted, refused, unless, check_from, check, answer, output, outcome_of, ConvertRight}
 use Rattle.logs.proofs.Checks.{both, passed}
 
 and_false : (b : Bool) → b && false ≡ false
@@ -45,13 +47,15 @@ accepted n m ds p =
     record { whole = eqb-true (n % 5) 0 b.0; sized = eqb-true m n b.1; sound = a.1 }
 
 -- A refusal is no conversion.
-never : {q : Refusal} (o : Outcome) → o ≡ refused q → o ≡ converted → ⊥
-never o p e = let z : ◌≡◌ {A = ℕ} 0 1 = cc in omega arith
+never : (e : code.Refusal) → outcome_of (Err e) ≡ converted → ⊥
+never Length p = let z : ◌≡◌ {A = ℕ} 0 1 = cc in omega arith
+never (Late k) p = let z : ◌≡◌ {A = ℕ} 0 1 = cc in omega arith
+never (Falling k) p = let z : ◌≡◌ {A = ℕ} 0 1 = cc in omega arith
 
 -- A refusal leaves the output, and what is converted is written.
-module _ (f : Format) (s before : Bytes) (r : Answer) (a : outcome_of r ≡ answer f s (length before)) where
-  pub refusing : {q : Refusal} → outcome_of r ≡ refused q → ConvertRight f s before r before
-  refusing e = record { answered = a; output_right = record { written = λ c. absurd (never (outcome_of r) e (a ∙ c)); untouched = λ q c. refl } }
+module _ (f : Format) (s before : Bytes) where
+  pub refusing : (r : Result (Unit {0}) code.Refusal) (e : code.Refusal) → r ≡ Err e → outcome_of r ≡ answer f s (length before) → ConvertRight f s before r before
+  refusing r e i a = record { answered = a; output_right = record { written = λ c. absurd (never e (sym (ap outcome_of i) ∙ a ∙ c)); untouched = λ q c. refl } }
 
-  pub converting : (after : Bytes) → outcome_of r ≡ converted → after ≡ output f s → ConvertRight f s before r after
-  converting after e w = record { answered = a; output_right = record { written = λ c. w; untouched = λ q c. absurd (never (outcome_of r) (a ∙ c) e) } }
+  pub converting : (after : Bytes) → answer f s (length before) ≡ converted → after ≡ output f s → ConvertRight f s before (Ok tt) after
+  converting after a w = record { answered = sym a; output_right = record { written = λ c. w; untouched = λ q c. let z : ◌≡◌ {A = ℕ} 0 1 = cc in absurd (omega arith) } }

@@ -5,22 +5,13 @@ use mathlib.Core.List.{List, [], ◌∷◌, ◌++◌, append_assoc}
 use Prim.Native.Nat.{ℕ, zero, suc, ◌+◌, ◌*◌, ◌/◌, ◌%◌, ◌^◌, ◌≤◌, ◌<◌}
 use native.Mathlib.Nat.{div-div-eq-div-mul}
 use native.Mathlib.Omega.{arith}
-use lib.ListN.{length, take, drop, set, length-append}
-use lib.Seq.{sets-eq, take_all, take-add, drop-drop, drop-cons, get_or-append-add}
+use lib.ListN.{length, take, drop, length-append}
+use lib.Seq.{take_all, take-add, drop-drop, drop-cons, get_or-append-add}
 use Rattle.enforcement.specs.Automaton.{Bytes, byte}
 use Rattle.retimer.specs.Bytes.{double_word}
 use Rattle.logs.specs.declared.record.Record.{Record}
 use Rattle.logs.specs.Log.{record_at, records_from, records_of, record_bytes, bytes_of}
 use Rattle.logs.specs.Conversion.{AllBytes}
-
--- Five stores put five bytes, and keep the rest.
-pub put_five : (x : Bytes) (i a b c d e : ℕ) → i + 5 ≤ length x → set (set (set (set (set x i a) (i + 1) b) (i + 2) c) (i + 3) d) (i + 4) e ≡ take i x ++ (a ∷ b ∷ c ∷ d ∷ e ∷ []) ++ drop (i + 5) x
-put_five x i a b c d e h =
-    let one : i + 1 ≡ suc i = omega arith in
-    let two : i + 2 ≡ suc (suc i) = omega arith in
-    let three : i + 3 ≡ suc (suc (suc i)) = omega arith in
-    let four : i + 4 ≡ suc (suc (suc (suc i))) = omega arith in
-    (λ j. set (set (set (set (set x i a) (one j) b) (two j) c) (three j) d) (four j) e) ∙ sets-eq (a ∷ b ∷ c ∷ d ∷ e ∷ []) x i h
 
 -- ---- There and back
 

@@ -12,8 +12,8 @@ use Rattle.enforcement.specs.Automaton.{Bytes}
 use Rattle.enforcement.specs.TimedWord.{Event, dates_of}
 use Rattle.logs.specs.declared.format.Format.{Format}
 use Rattle.logs.specs.declared.record.Record.{Record}
-use Rattle.logs.specs.Log.{record_at, records_from, records_of, record_bytes, bytes_of, date_of, ticks_of, word_from, word_of, log_from, other}
-use Rattle.logs.specs.Conversion.{i_10, i_11, Outcome, converted, refused, check_from, dates_in, output}
+use Rattle.logs.specs.Log.{record_at, records_from, record_bytes, bytes_of, date_of, ticks_of, word_from, log_from, other}
+use Rattle.logs.specs.Conversion.{i_10, i_11, Outcome, converted, refused, check_from, output}
 use Rattle.logs.proofs.Checks.{late, falling, sound, Sound, is_sound}
 
 -- The timed word of the records from place k on, after an action at d; what they answer; and their bytes in a format.
@@ -25,16 +25,6 @@ check_rest f s k d = check_from k d (dates_of (word_rest f s k d))
 
 abbrev pub bytes_rest : Format → Format → Bytes → ℕ → ℕ → Bytes
 bytes_rest f g s k d = bytes_of (log_from g d (word_rest f s k d))
-
--- From the first place on it is all.
-all_rest : (f : Format) (s : Bytes) → word_rest f s 0 0 ≡ word_of f (records_of s)
-all_rest f s = let z : length s / 5 - 0 ≡ length s / 5 = omega arith in ap (λ (n : ℕ). word_from f 0 (records_from s n 0)) z
-
-pub check_all : (f : Format) (s : Bytes) → check_rest f s 0 0 ≡ check_from 0 0 (dates_in f s)
-check_all f s = ap (λ (w : List Event). check_from 0 0 (dates_of w)) (all_rest f s)
-
-pub bytes_all : (f : Format) (s : Bytes) → bytes_rest f (other f) s 0 0 ≡ output f s
-bytes_all f s = ap (λ (w : List Event). bytes_of (log_from (other f) 0 w)) (all_rest f s)
 
 -- After the last place there is nothing.
 module _ (f : Format) (s : Bytes) (k d : ℕ) (h : length s / 5 ≤ k) where
@@ -100,9 +90,6 @@ pub record Written (f : Format) (s out : Bytes) (k d : ℕ) : Type 0 where
   pub early : d ≤ max_date
   pub sound : check_rest f s k d ≡ converted
   pub filled : take (5 * k) out ++ bytes_rest f (other f) s k d ≡ output f s
-
-pub written_none : (f : Format) (s out : Bytes) → length out ≡ length s → check_from 0 0 (dates_in f s) ≡ converted → Written f s out 0 0
-written_none f s out e p = record { sized = e; early = omega arith; sound = check_all f s ∙ p; filled = bytes_all f s }
 
 module _ {f : Format} {s out : Bytes} {k d t : ℕ} {r : Record} (w : Written f s out k d) (n : Next f s k d r t) where
   pub date_sound : Sound k d t (dates_of (word_rest f s (k + 1) t))

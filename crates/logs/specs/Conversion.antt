@@ -1,12 +1,12 @@
 -- The conversion of a log to the other format: why it refuses, what it answers, and what is promised of it (request F-3 of document 02).
-use Rattle.std.specs.Prelude.{◌≡◌, Bool, true, false, ◌&&◌, List, [], ◌∷◌, ◌⊎◌, ◌↔◌, ℕ, zero, suc, ◌+◌, ◌*◌, ◌/◌, ◌%◌, ◌≤◌, ◌<◌, leb, eqb, length, get_or}
+use Rattle.std.specs.Prelude.{◌≡◌, Bool, true, false, ◌&&◌, List, [], ◌∷◌, ◌⊎◌, ◌↔◌, ℕ, zero, suc, ◌+◌, ◌*◌, ◌/◌, ◌%◌, ◌≤◌, ◌<◌, leb, eqb, length, get_or, Result, Ok, Err}
 use Rattle.enforcement.specs.Limits.{max_date}
 use Rattle.enforcement.specs.Automaton.{Bytes, byte}
 use Rattle.enforcement.specs.TimedWord.{Monotone, last_of, dates_of}
 use Rattle.logs.specs.declared.format.Format.{Format}
 use Rattle.logs.specs.declared.format.Format.TheVariants.{Dates}
-use Rattle.logs.specs.declared.convert.Answer.{Answer}
-use Rattle.logs.specs.declared.convert.Answer.TheVariants.{Converted, Length, Late, Falling}
+use Rattle.logs.specs.declared.convert.Refusal as code
+use Rattle.logs.specs.declared.convert.Refusal.TheVariants.{Length, Late, Falling}
 use Rattle.logs.specs.Log.{records_of, bytes_of, word_of, log_of, other}
 
 -- ---- When a conversion refuses
@@ -114,12 +114,12 @@ pub record Reversed (f : Format) (s : Bytes) (m : ℕ) : Type 0 where
 
 -- ---- The code
 
--- The outcome that a declared answer stands for.
-abbrev pub outcome_of : Answer → Outcome
-outcome_of Converted = converted
-outcome_of Length = refused i_9
-outcome_of (Late k) = refused (i_10 k)
-outcome_of (Falling k) = refused (i_11 k)
+-- The outcome that an answer of the code stands for.
+abbrev pub outcome_of : Result (Unit {0}) code.Refusal → Outcome
+outcome_of (Ok done) = converted
+outcome_of (Err Length) = refused i_9
+outcome_of (Err (Late k)) = refused (i_10 k)
+outcome_of (Err (Falling k)) = refused (i_11 k)
 
 -- What is promised of the output: it is the converted log, or after a refusal what it was.
 pub record OutputRight (f : Format) (s before after : Bytes) : Type 0 where
@@ -127,6 +127,6 @@ pub record OutputRight (f : Format) (s before after : Bytes) : Type 0 where
   pub untouched : (q : Refusal) → answer f s (length before) ≡ refused q → after ≡ before
 
 -- What a conversion promises.
-pub record ConvertRight (f : Format) (s before : Bytes) (r : Answer) (after : Bytes) : Type 0 where
+pub record ConvertRight (f : Format) (s before : Bytes) (r : Result (Unit {0}) code.Refusal) (after : Bytes) : Type 0 where
   pub answered : outcome_of r ≡ answer f s (length before)
   pub output_right : OutputRight f s before after

@@ -10,10 +10,9 @@ use retimer::limits::Monitor;
 // The last date.
 const LAST: u64 = Monitor::LATEST as u64;
 
-// What a conversion answers. A refusal for a record has its place, from 0.
+// Why a log is refused. A refusal for a record has its place, from 0.
 #[derive(Clone, Copy)]
-pub enum Answer {
-    Converted,
+pub enum Refusal {
     // I-9: a length that is no multiple of 5, or an output of another length.
     Length,
     // I-10: a date, or a sum of gaps, above the last date.
@@ -23,37 +22,30 @@ pub enum Answer {
 }
 
 // The answer that the records of a log give; bytes left over are passed over.
-fn check_records(f: Format, log: &[u8]) -> Answer
+fn check_records(f: Format, log: &[u8]) -> Result<(), Refusal>
     ensures { outcome_of result ≡ check_from 0 0 (dates_in f log.now) }
 {
-    let n = log.len() / record::SIZE;
     let mut before: u64 = 0;
-    let mut k: usize = 0;
-    while k < n {
-        let r = record::at(log, k);
-        let date = ticks::date_of(f, before, r.ticks);
+    for k in 0..log.len() / record::SIZE {
+        let date = ticks::date_of(f, before, record::at(log, k).ticks);
         if LAST < date {
-            return Answer::Late(k);
+            return Err(Refusal::Late(k));
         }
         if date < before {
-            return Answer::Falling(k);
+            return Err(Refusal::Falling(k));
         }
         before = date;
-        k += 1;
     }
-    Answer::Converted
+    Ok(())
 }
 
 // How many of the whole records of a log, from the first on, are without fault: the place of the first faulty one, if there is one. No record is refused for a length.
 pub fn sound(f: Format, log: &[u8]) -> usize
     ensures { result ≡ sound_of f log.now }
 {
-    let answer = check_records(f, log);
-    match answer {
-        Answer::Converted => log.len() / record::SIZE,
-        Answer::Length => log.len() / record::SIZE,
-        Answer::Late(k) => k,
-        Answer::Falling(k) => k,
+    match check_records(f, log) {
+        Ok(()) | Err(Refusal::Length) => log.len() / record::SIZE,
+        Err(Refusal::Late(k) | Refusal::Falling(k)) => k,
     }
 }
 
@@ -63,10 +55,8 @@ fn write(f: Format, log: &[u8], out: &mut [u8])
     ensures { out.new ≡ output f log.now }
 {
     let g = format::other(f);
-    let n = log.len() / record::SIZE;
     let mut before: u64 = 0;
-    let mut k: usize = 0;
-    while k < n {
+    for k in 0..log.len() / record::SIZE {
         let r = record::at(log, k);
         let date = ticks::date_of(f, before, r.ticks);
         let written = Record {
@@ -75,26 +65,20 @@ fn write(f: Format, log: &[u8], out: &mut [u8])
         };
         record::put(out, k, written);
         before = date;
-        k += 1;
     }
 }
 
 // Converts a log to the other format, into an output of the same length. A refusal leaves the output as it is.
-pub fn convert(f: Format, log: &[u8], out: &mut [u8]) -> Answer
+pub fn convert(f: Format, log: &[u8], out: &mut [u8]) -> Result<(), Refusal>
     ensures { ConvertRight f log.now out.old result out.new }
 {
     if log.len() % record::SIZE != 0 {
-        return Answer::Length;
+        return Err(Refusal::Length);
     }
     if out.len() != log.len() {
-        return Answer::Length;
+        return Err(Refusal::Length);
     }
-    let answer = check_records(f, log);
-    match answer {
-        Answer::Converted => write(f, log, out),
-        Answer::Length => {}
-        Answer::Late(_) => {}
-        Answer::Falling(_) => {}
-    }
-    answer
+    check_records(f, log)?;
+    write(f, log, out);
+    Ok(())
 }

@@ -26,23 +26,11 @@ pub fn at(log: &[u8], k: usize) -> Record
     }
 }
 
-// The lowest byte of a number.
-fn low(n: u32) -> u8
-    ensures { result ≡ n % 256 }
-{
-    (n % 256) as u8
-}
-
 // Puts a record at a place; the rest is as before.
 pub fn put(out: &mut [u8], k: usize, r: Record)
     requires { 5 * k + 5 ≤ length out.old }
     ensures { out.new ≡ take (5 * k) out.old ++ record_bytes r ++ drop (5 * k + 5) out.old }
 {
-    let i = SIZE * k;
-    let ticks = r.ticks;
-    out[i] = low(ticks);
-    out[i + 1] = low(ticks / 256);
-    out[i + 2] = low(ticks / 65_536);
-    out[i + 3] = low(ticks / 16_777_216);
-    out[i + 4] = r.action;
+    let [lowest, low, high, highest] = r.ticks.to_le_bytes();
+    bytes::put(out, SIZE * k, &[lowest, low, high, highest, r.action]);
 }

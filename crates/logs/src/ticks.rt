@@ -10,7 +10,7 @@ pub fn date_of(f: Format, d: u64, ticks: u32) -> u64
     requires { d ≤ max_date }
     ensures { result ≡ date_of f d ticks }
 {
-    let n = ticks as u64;
+    let n = u64::from(ticks);
     match f {
         Format::Dates => n,
         Format::Gaps => d + n,

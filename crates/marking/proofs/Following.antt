@@ -2,7 +2,7 @@
 -- Assumes nothing.
 use mathlib.Core.Path.{◌≡◌, refl, sym, ap, ◌∙◌}
 use mathlib.Core.Bool.{Bool, true, false}
-use mathlib.Core.List.{List, [], ◌∷◌, ◌++◌, append_assoc, append-nil}
+use mathlib.Core.List.{List, ◌∷◌, ◌++◌, append_assoc, append-nil}
 use Prim.Native.Nat.{ℕ, suc, ◌+◌, ◌-◌, ◌*◌, ◌/◌, ◌%◌, ◌≤◌, ◌<◌}
 use native.Mathlib.Omega.{arith}
 use native.Mathlib.Nat.{div-add-mod', mod-lt}
@@ -20,16 +20,16 @@ use Rattle.report.specs.Texts.{ascii, numeral}
 use Rattle.report.specs.Lines.{outcome_text, answer_text, call_line, lamp_text, tail_line}
 use Rattle.report.proofs.Numerals.{numeral_few}
 use Rattle.report.proofs.LineLaws.{answer_few, tail_few}
-use Rattle.retimer.proofs.Writing.{next, as_part, writes_none}
+use Rattle.retimer.proofs.Writing.{next, as_part}
 use Rattle.retimer.specs.declared.limits.State.{State}
 use Rattle.retimer.specs.declared.limits.Monitor.{Monitor}
 use Rattle.retimer.specs.declared.state.Answer.{Answer}
 use Rattle.retimer.specs.declared.state.Answer.TheVariants.{Scheduled, Held, Dropped, Played, Nothing, Lit, Dark, Refused}
 use Rattle.retimer.specs.declared.state.Moved.{Moved}
-use Rattle.retimer.specs.View.{bytes_of, view, view_of, StateValid, Sound, Valid}
+use Rattle.retimer.specs.View.{bytes_of, view, view_of, StateValid, Sound}
 use Rattle.retimer.specs.Calls.{outcome_of, moved_of, with_state, MoveRight}
 use Rattle.retimer.specs.Replay.{call_at, calls_from, calls_of}
-use Rattle.retimer.proofs.CallLaws.{view_lit, valid_state, valid_box}
+use Rattle.retimer.proofs.CallLaws.{view_lit, valid_box}
 use Rattle.marking.specs.Marks.{line_of, lines_of, MarkRight}
 
 -- ---- One line
@@ -88,24 +88,6 @@ pub record Marking (start : Monitor) (s : Bytes) (n : ℕ) (before out : List �
   pub valid : StateValid (bytes_of start) start.live q
   pub sized : length out ≡ length before
 
-none_done : (x : ℕ) → x - 0 ≡ x
-none_done x = omega arith
-
-pub begins : (start : Monitor) (s : Bytes) (n : ℕ) (x : List ℕ) → Valid start → Marking start s n x x start.state n 0 0
-begins start s n x v = record {
-  done = 0;
-  place = refl;
-  inside = omega arith;
-  made_is = omega arith;
-  text = [];
-  wrote = writes_none x 0;
-  few = omega arith;
-  lines = ap (λ (k : ℕ). lines_of (compile (bytes_of start)) (view_of start) n (calls_from s k 0)) (none_done (length s / 5));
-  monitor = ap (λ (k : ℕ). (replay (compile (bytes_of start)) (view_of start) (calls_from s k 0)).monitor) (none_done (length s / 5));
-  valid = valid_state v;
-  sized = refl;
-}
-
 -- The whole calls of a list of bytes, and the bytes left over.
 module _ (s : Bytes) where
   pub parts : length s / 5 * 5 + length s % 5 ≡ length s
@@ -116,7 +98,7 @@ module _ (s : Bytes) where
 
 -- One call.
 module _ {start : Monitor} {s : Bytes} {n : ℕ} {before out : List ℕ} {q : State} {made end i : ℕ} (g : Marking start s n before out q made end i) (here : i + 5 ≤ length s) where
-  pub one_more : g.done < length s / 5
+  one_more : g.done < length s / 5
   one_more = omega (arith, g.place, parts s, rest_few s)
 
   left : length s / 5 - g.done ≡ suc (length s / 5 - (g.done + 1))
@@ -180,9 +162,6 @@ module _ {start : Monitor} {s : Bytes} {n : ℕ} {before out : List ℕ} {q : St
   all_done : g.done ≡ length s / 5
   all_done = omega (arith, g.place, g.inside, parts s, rest_few s)
 
-  pub left_over : length s - i ≡ length s % 5
-  left_over = omega (arith, g.place, all_done, parts s)
-
   none_left : length s / 5 - g.done ≡ 0
   none_left = omega (arith, all_done)
 
@@ -194,14 +173,14 @@ module _ {start : Monitor} {s : Bytes} {n : ℕ} {before out : List ℕ} {q : St
   unfolding replay calls_from
   monitor_all = ap (λ (j : ℕ). (replay (compile (bytes_of start)) (view q) (calls_from s j i)).monitor) (sym none_left) ∙ g.monitor
 
-  pub finishes : {out' : List ℕ} {size : ℕ} → Sound start → 120 * (length s / 5) + 120 ≤ length before → Wrote out end (tail_line (length s - i)) out' size → length out' ≡ length out
-      → MarkRight start s n before out' (record { monitor = with_state start q; calls = made; size = size })
+  pub finishes : {out' : List ℕ} {size : ℕ} → Sound start → 120 * (length s / 5) + 120 ≤ length before → Wrote out end (tail_line (length s % 5)) out' size → length out' ≡ length out
+      → MarkRight start s n before out' (record { monitor = with_state start q; calls = n + length s / 5; size = size })
   finishes {out'} {size} f room wrote kept =
-      let fits : size ≤ length out' = omega (arith, wrote.ends, g.few, g.inside, g.sized, kept, tail_few (length s - i)) in
+      let fits : size ≤ length out' = omega (arith, wrote.ends, g.few, g.inside, g.sized, kept, tail_few (length s % 5)) in
       record {
-        wrote = as_part (next (omega (arith, g.few, g.inside)) g.wrote wrote) (ap (λ (t : List ℕ). t ++ tail_line (length s - i)) text_all ∙ ap (λ (j : ℕ). lines_of (compile (bytes_of start)) (view_of start) n (calls_of s) ++ tail_line j) left_over);
+        wrote = as_part (next (omega (arith, g.few, g.inside)) g.wrote wrote) (ap (λ (t : List ℕ). t ++ tail_line (length s % 5)) text_all);
         counts = (fits, sym (length-take-le size out' fits));
-        calls_are = omega (arith, g.made_is, all_done);
+        calls_are = refl;
         monitor_is = monitor_all;
         valid = valid_box f g.valid;
         kept = refl;

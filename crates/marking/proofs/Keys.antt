@@ -4,6 +4,7 @@ use mathlib.Core.Path.{◌≡◌, sym, ap, ap₂, ◌∙◌}
 use mathlib.Core.List.{List, [], ◌++◌, append_assoc, append-nil}
 use Prim.Native.Nat.{ℕ, ◌+◌, ◌-◌, ◌≤◌}
 use native.Mathlib.Omega.{arith}
+use Rattle.std.specs.Prelude.{Result, Ok}
 use lib.ListN.{length, take, drop, length-drop, drop_of_length-le}
 use lib.Seq.{length-take-le, take_all, drop-drop}
 use Rattle.enforcement.specs.Automaton.{Bytes, automaton}
@@ -18,26 +19,20 @@ use Rattle.retimer.proofs.Writing.{next}
 use Rattle.retimer.specs.declared.limits.Monitor.{Monitor}
 use Rattle.retimer.specs.declared.reason.Reason.{Reason}
 use Rattle.retimer.specs.declared.sheet.Counts.{Counts}
-use Rattle.retimer.specs.declared.sheet.Checked.{Checked}
-use Rattle.retimer.specs.declared.sheet.Checked.TheVariants.{Accepted, Refused}
 use Rattle.retimer.specs.Checked.{checked_of}
 use Rattle.retimer.specs.View.{bytes_of, view_of}
 use Rattle.retimer.specs.Calls.{FreshRight}
 use Rattle.marking.specs.Marks.{block_text, text_of, key_text}
 
-module _ (s : Bytes) (d : ℕ) (calls : Bytes) (v : Checked) (right : checked_of v ≡ check s d) where
-  -- A sheet that does not load has its line alone.
-  pub key_refused : (r : Reason) → v ≡ Refused r → checked_line (checked_of v) ≡ key_text s d calls
-  key_refused r e = ap (λ (w : Checked). checked_line (checked_of w)) e ∙ ap (λ (w : Checked). text_of (checked_of w) s d calls) (sym e) ∙ ap (λ (k : loading.Checked). text_of k s d calls) right
-
+module _ (s : Bytes) (d : ℕ) (calls : Bytes) (v : Result Counts Reason) (right : checked_of v ≡ check s d) where
   -- The fresh box of a sheet that loads at that date.
   fresh_text : (b : Monitor) → FreshRight s d b → block_text (compile (bytes_of b)) (view_of b) 0 calls ≡ block_text (compile s) (fresh_monitor (automaton s d)) 0 calls
   fresh_text b f = ap (λ (m : model.Monitor). block_text (compile (bytes_of b)) m 0 calls) f.is ∙ ap (λ (x : Bytes). block_text (compile x) (fresh_monitor (automaton x d)) 0 calls) f.sheet
 
-  pub key_accepted : (k : Counts) (b : Monitor) → v ≡ Accepted k → FreshRight s d b → checked_line (checked_of v) ++ block_text (compile (bytes_of b)) (view_of b) 0 calls ≡ key_text s d calls
+  pub key_accepted : (k : Counts) (b : Monitor) → v ≡ Ok k → FreshRight s d b → checked_line (checked_of v) ++ block_text (compile (bytes_of b)) (view_of b) 0 calls ≡ key_text s d calls
   key_accepted k b e f =
-      ap₂ (λ (w : Checked) (t : List ℕ). checked_line (checked_of w) ++ t) e (fresh_text b f)
-      ∙ ap (λ (w : Checked). text_of (checked_of w) s d calls) (sym e) ∙ ap (λ (c : loading.Checked). text_of c s d calls) right
+      ap₂ (λ (w : Result Counts Reason) (t : List ℕ). checked_line (checked_of w) ++ t) e (fresh_text b f)
+      ∙ ap (λ (w : Result Counts Reason). text_of (checked_of w) s d calls) (sym e) ∙ ap (λ (c : loading.Checked). text_of c s d calls) right
 
 -- The part of a buffer from a place on.
 pub part_length : (y : List ℕ) (m : ℕ) → length (take (length y - m) (drop m y)) ≡ length y - m

@@ -1,5 +1,4 @@
 pub mod Blocks
 pub mod Following
-pub mod Inputs
 pub mod Keys
 pub mod Telling

@@ -34,22 +34,19 @@ pub fn mark(start: Monitor, calls: &[u8], n: u64, out: &mut [u8]) -> Marked
     let sheet: &[u8] = &start.bytes;
     let live: &[u8] = &start.live;
     let mut state = start.state;
-    let mut made = n;
+    let whole = calls.len() / CALL;
     let mut end: usize = 0;
-    let mut i: usize = 0;
-    while i + CALL <= calls.len() {
-        let called = replay::call_at(&sheet[..size], live, state, calls, i);
+    for k in 0..whole {
+        let called = replay::call_at(&sheet[..size], live, state, calls, CALL * k);
         let answer = called.answer;
         state = called.state;
         let lit = state.lit;
-        made += 1;
-        end = line::call_line(out, end, made, answer, lit);
-        i += CALL;
+        end = line::call_line(out, end, n + k as u64 + 1, answer, lit);
     }
-    let written = line::tail_line(out, end, calls.len() - i);
+    let written = line::tail_line(out, end, calls.len() % CALL);
     Marked {
         monitor: start.with_state(state),
-        calls: made,
+        calls: n + whole as u64,
         size: written,
     }
 }

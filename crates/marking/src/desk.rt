@@ -8,7 +8,8 @@ ghost use Rattle.retimer.specs.View.{Valid};
 use crate::{block, input};
 use report::line;
 use retimer::limits::Monitor;
-use retimer::sheet::Checked;
+use retimer::reason::Reason;
+use retimer::sheet::Counts;
 use std::io;
 use std::io::Read;
 
@@ -20,6 +21,7 @@ fn read_full<R: Read>(reader: &mut R, buffer: &mut [u8]) -> io::Result<usize>
     ensures { IfOk result (λ n. IsPrefixLen n buffer.new) }
 {
     let mut done = 0;
+    // A `for` is no plainer: a read gives as many bytes as there are.
     while done < buffer.len() {
         let size = reader.read(&mut buffer[done..])?;
         if size == 0 {
@@ -42,7 +44,7 @@ fn read_sheet<R: Read>(reader: &mut R, front: &mut [u8]) -> io::Result<usize>
 }
 
 // Prints the line of what the check of a sheet answered.
-pub fn print_checked(rt: &impl Print, c: Checked) -> io::Result<()> {
+pub fn print_checked(rt: &impl Print, c: Result<Counts, Reason>) -> io::Result<()> {
     let mut out = [0u8; line::SHEET];
     let end = line::checked_line(&mut out, 0, c);
     rt.write_all(&out[..end])
@@ -55,6 +57,7 @@ fn mark_calls<R: Read>(rt: &impl Print, reader: &mut R, start: Monitor) -> io::R
 {
     let mut b = start;
     let mut n: u64 = 0;
+    // A `for` is no plainer: the number of calls is what the block before gave.
     while n < LAST {
         let mut calls = [0u8; block::BYTES];
         let size = read_full(reader, &mut calls)?;
@@ -80,7 +83,7 @@ fn mark_input<R: Read>(rt: &impl Print, reader: &mut R, loaded: u32) -> io::Resu
     let size = read_sheet(reader, &mut front)?;
     let start = input::load(&front[..size], loaded);
     let checked = start.checked;
-    let Checked::Accepted(_) = checked else {
+    let Ok(_) = checked else {
         return print_checked(rt, checked);
     };
     print_checked(rt, checked)?;

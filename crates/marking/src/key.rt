@@ -7,7 +7,6 @@ ghost use Rattle.marking.specs.Marks.{key_text};
 use crate::block;
 use report::line;
 use retimer::limits::Monitor;
-use retimer::sheet::Checked;
 
 // Writes the line of the sheet and, where it loads at that date, those of the calls; answers the text's size.
 pub fn key(sheet: &[u8], loaded: u32, calls: &[u8], out: &mut [u8]) -> usize
@@ -18,12 +17,9 @@ pub fn key(sheet: &[u8], loaded: u32, calls: &[u8], out: &mut [u8]) -> usize
     let start = Monitor::load(sheet, loaded);
     let checked = start.checked;
     let first = line::checked_line(out, 0, checked);
-    match checked {
-        Checked::Accepted(_) => {}
-        Checked::Refused(_) => {
-            return first;
-        }
-    }
+    let Ok(_) = checked else {
+        return first;
+    };
     let fresh = start.monitor;
     let marked = block::mark(fresh, calls, 0, &mut out[first..]);
     first + marked.size

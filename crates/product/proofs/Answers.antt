@@ -5,6 +5,7 @@ use mathlib.Core.Bool.{Bool, true, false, ◌&&◌}
 use mathlib.Core.List.{◌++◌}
 use mathlib.Core.Logic.{◌⊎◌, inl, inr}
 use Prim.Native.Nat.{ℕ, ◌+◌, ◌-◌, ◌*◌, ◌≤◌, ◌<◌}
+use Rattle.std.specs.Prelude.{Result, Ok, Err}
 use native.Mathlib.Omega.{arith}
 use lib.Dec.{leb}
 use lib.ListN.{length, take, replicate}
@@ -12,12 +13,12 @@ use lib.Seq.{take_at}
 use borrow.Author.Tests.{eq-eqb, ne_eqb, le-leb, lt-leb}
 use Rattle.enforcement.specs.Limits.{max_count, max_transitions, max_size}
 use Rattle.enforcement.specs.Automaton.{Bytes, locations, clocks, actions}
-use Rattle.enforcement.specs.Reason.{Reason}
 use Rattle.enforcement.specs.Loading.{Checked, accepted}
 use Rattle.enforcement.specs.Loading as loading
 use Rattle.retimer.specs.Bytes.{Wrote}
 use Rattle.retimer.proofs.Writing.{next, as_part}
-use Rattle.product.specs.declared.join.Answer.{Answer}
+use Rattle.product.specs.declared.join.Refusal as code
+use Rattle.product.specs.declared.join.Refusal.TheVariants.{Length, First, Second, Actions, Size, Transitions}
 use Rattle.product.specs.Encoding.{header_bytes, transitions_bytes, pairs_from}
 use Rattle.product.specs.Product.{all_locations, product, product_transitions, joined, Joinable}
 use Rattle.product.specs.Joining.{Refusal, i_9, i_12, i_13, i_14, of_first, of_second, Outcome, written, refused, unless, own, fitting, answer, output, outcome_of, JoinRight}
@@ -68,13 +69,6 @@ module _ (s u : Bytes) where
 
 -- ---- Any two sheets
 
--- A sheet's own refusal, and a sheet without one.
-pub own_refused : (f : Reason → Refusal) (o : Outcome) {v : Checked} (r : Reason) → loading.refused r ≡ v → refused (f r) ≡ own f v o
-own_refused f o r e = ap (λ (v : Checked). own f v o) e
-
-pub own_loads : (f : Reason → Refusal) {a o : Outcome} {v : Checked} (k : loading.Counts) → accepted k ≡ v → a ≡ o → a ≡ own f v o
-own_loads f {a} {o} k e h = h ∙ ap (λ (v : Checked). own f v o) e
-
 module _ (m : ℕ) (s u : Bytes) where
   -- What is answered where the output has the right length.
   abbrev pub rest : Outcome
@@ -98,12 +92,21 @@ module _ (m : ℕ) (s u : Bytes) where
 
 -- ---- The output
 
-module _ (s u before : Bytes) (r : Answer) (e : outcome_of r ≡ answer (length before) s u) where
-  pub refusing : (q : Refusal) → outcome_of r ≡ refused q → JoinRight s u before r before
-  refusing q f = record { answered = e; output_right = record { wrote = λ n g. let z : ◌≡◌ {A = ℕ} 0 1 = cc (e, f, g) in absurd (omega arith); untouched = λ p g. refl } }
+-- A refusal writes no length.
+never : (e : code.Refusal) (n : ℕ) → outcome_of (Err e) ≡ written n → ⊥
+never Length n p = let z : ◌≡◌ {A = ℕ} 0 1 = cc in omega arith
+never (First r) n p = let z : ◌≡◌ {A = ℕ} 0 1 = cc in omega arith
+never (Second r) n p = let z : ◌≡◌ {A = ℕ} 0 1 = cc in omega arith
+never Actions n p = let z : ◌≡◌ {A = ℕ} 0 1 = cc in omega arith
+never Size n p = let z : ◌≡◌ {A = ℕ} 0 1 = cc in omega arith
+never Transitions n p = let z : ◌≡◌ {A = ℕ} 0 1 = cc in omega arith
 
-  pub joining : (after : Bytes) (n : ℕ) → outcome_of r ≡ written n → after ≡ output s u → JoinRight s u before r after
-  joining after n f w = record { answered = e; output_right = record { wrote = λ k g. w; untouched = λ p g. let z : ◌≡◌ {A = ℕ} 0 1 = cc (e, f, g) in absurd (omega arith) } }
+module _ (s u before : Bytes) where
+  pub refusing : (r : Result ℕ code.Refusal) (e : code.Refusal) → r ≡ Err e → outcome_of r ≡ answer (length before) s u → JoinRight s u before r before
+  refusing r e i a = record { answered = a; output_right = record { wrote = λ n g. absurd (never e n (sym (ap outcome_of i) ∙ a ∙ g)); untouched = λ p g. refl } }
+
+  pub joining : (after : Bytes) (n : ℕ) → answer (length before) s u ≡ written n → after ≡ output s u → JoinRight s u before (Ok n) after
+  joining after n e w = record { answered = sym e; output_right = record { wrote = λ k g. w; untouched = λ p g. let z : ◌≡◌ {A = ℕ} 0 1 = cc (e, g) in absurd (omega arith) } }
 
 -- The parts, put one after the other, are the joined sheet.
 module _ (s u : Bytes) {a b c : Bytes} {i j : ℕ} (h : Wrote a 0 (header_bytes (product s u)) b i) (p : Wrote b i (pairs_from (6 + 4 * (locations s * locations u)) (all_locations s u)) c j) where

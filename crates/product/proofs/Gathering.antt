@@ -5,11 +5,10 @@ use mathlib.Core.Bool.{Bool, true, false, cond}
 use Prim.Native.Nat.{ℕ, suc, ◌+◌, ◌-◌, ◌*◌, ◌^◌, ◌≤◌, ◌<◌}
 use native.Mathlib.Omega.{arith}
 use native.Mathlib.Nat.{pow-suc}
-use lib.Pow.{pow_mono}
 use Rattle.enforcement.specs.Limits.{max_count}
 use Rattle.enforcement.specs.Automaton.{Bytes, locations}
 use Rattle.product.specs.Encoding.{accepting_set}
-use Rattle.product.specs.Product.{location_at, locations_from, all_locations}
+use Rattle.product.specs.Product.{location_at, locations_from}
 use Rattle.product.proofs.RowLaws.{locations_next, locations_none}
 
 -- The locations from l on, of m.
@@ -27,10 +26,6 @@ gathered_none s u m e h =
     record { count_is = e; small = h; before = omega arith; is = sym (ap accepting_set (locations_none s u m m (omega arith))); below = rw z (omega arith) }
 
 module _ {s u : Bytes} {m set l : ℕ} (g : Gathered s u m set l) where
-  -- A set has at most 16 bits.
-  pub gathered_small : set < 65536
-  gathered_small = let k = g.small in omega (arith, g.below, pow_mono {i = m - l} {j = 16} (omega arith))
-
   -- One more, at l - 1.
   module _ (some : 0 < l) where
     gathered_next : (b : Bool) → (location_at s u (l - 1)).accepting ≡ b → accepting_set (locations_from s u (m - (l - 1)) (l - 1)) ≡ cond b 1 0 + 2 * set
@@ -50,8 +45,3 @@ module _ {s u : Bytes} {m set l : ℕ} (g : Gathered s u m set l) where
 
     pub gathered_without : (location_at s u (l - 1)).accepting ≡ false → Gathered s u m (set * 2) (l - 1)
     gathered_without e = gathered_one (set * 2) (omega (arith, gathered_next false e)) (omega arith)
-
-  pub gathered_all : l ≡ 0 → (set ≡ accepting_set (all_locations s u)) × (set < 65536)
-  gathered_all e =
-      let z : m - l ≡ locations s * locations u = omega (arith, g.count_is) in
-      (g.is ∙ ap₂ (λ (k i : ℕ). accepting_set (locations_from s u k i)) z e, gathered_small)

@@ -11,7 +11,6 @@ pub mod Refusals
 pub mod Filling
 pub mod RowLaws
 pub mod Counts
-pub mod Clearing
 pub mod Putting
 pub mod Gathering
 pub mod Headers

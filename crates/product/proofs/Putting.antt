@@ -5,72 +5,71 @@ use mathlib.Core.List.{List, ◌++◌}
 use Prim.Native.Nat.{ℕ, ◌+◌, ◌-◌, ◌*◌, ◌≤◌, ◌<◌}
 use native.Mathlib.Omega.{arith}
 use lib.ListN.{length}
-use Rattle.enforcement.specs.Automaton.{Bytes, Transition, byte, locations, transition_at, transitions_from}
+use Rattle.enforcement.specs.Automaton.{Bytes, Transition, byte, locations, transition_at}
 use Rattle.retimer.specs.Bytes.{Wrote}
 use Rattle.product.specs.Encoding.{Location, transitions_in, transition_bytes, transitions_bytes}
 use Rattle.product.specs.Product.{joint, joints_of, joints, location_at, locations_from, product_transitions}
-use Rattle.product.specs.Rows.{FittingRow}
+use Rattle.product.specs.declared.row.Row.{Row}
+use Rattle.product.specs.Rows.{row_transitions}
 use Rattle.product.proofs.Decoding.{bytes_append}
 use Rattle.product.proofs.Filling.{Filling, filling_none, filling_as, part_room, filling_more, filling_all}
-use Rattle.product.proofs.RowLaws.{row, rest_fits, matching_next, other_next, matching_none, joints_next, joints_none, locations_next, locations_none}
+use Rattle.product.proofs.RowLaws.{place, rest, rest_all, matching_next, other_next, matching_none, joints_next, joints_none, locations_next, locations_none}
 
 -- ---- A transition of the first sheet with those of a row
 
-abbrev matching_bytes : Bytes → ℕ → Bytes → ℕ → ℕ → Bytes
-matching_bytes s p u n q = transitions_bytes (joints_of (locations u) (transition_at s p) (transitions_from u n q))
+abbrev matching_bytes : Bytes → ℕ → Bytes → List Transition → Bytes
+matching_bytes s p u ts = transitions_bytes (joints_of (locations u) (transition_at s p) ts)
 
--- Of n transitions from q₀ on, m from q on are ahead.
-pub record Matching (s : Bytes) (p : ℕ) (u before : Bytes) (at n q₀ : ℕ) (out : Bytes) (end m q : ℕ) : Type 0 where
-  pub room : at + length (matching_bytes s p u n q₀) ≤ length before
-  pub fit : FittingRow u (row m q)
-  pub filling : Filling before at (matching_bytes s p u n q₀) out end (matching_bytes s p u m q)
+-- Those of the row from i on are ahead.
+pub record Matching (s : Bytes) (p : ℕ) (u before : Bytes) (at : ℕ) (r : Row) (out : Bytes) (end i : ℕ) : Type 0 where
+  pub room : at + length (matching_bytes s p u (row_transitions u r)) ≤ length before
+  pub filling : Filling before at (matching_bytes s p u (row_transitions u r)) out end (matching_bytes s p u (rest u r i))
 
-pub matching_begun : (s : Bytes) (p : ℕ) (u before : Bytes) (at n q : ℕ) → at + length (matching_bytes s p u n q) ≤ length before → FittingRow u (row n q) → Matching s p u before at n q before at n q
-matching_begun s p u before at n q r f = record { room = r; fit = f; filling = filling_none before at (matching_bytes s p u n q) }
+pub matching_begun : (s : Bytes) (p : ℕ) (u before : Bytes) (at : ℕ) (r : Row) → at + length (matching_bytes s p u (row_transitions u r)) ≤ length before → Matching s p u before at r before at 0
+matching_begun s p u before at r h = record { room = h; filling = filling_as (filling_none before at (matching_bytes s p u (row_transitions u r))) (ap (matching_bytes s p u) (rest_all u r)) }
 
-module _ {s : Bytes} {p : ℕ} {u before out : Bytes} {at n q₀ end m q : ℕ} (h : Matching s p u before at n q₀ out end m q) where
-  taken : 0 < m → byte s p ≡ byte u q → matching_bytes s p u m q ≡ transition_bytes (joint (locations u) (transition_at s p) (transition_at u q)) ++ matching_bytes s p u (m - 1) (q + 7)
+module _ {s : Bytes} {p : ℕ} {u before out : Bytes} {at : ℕ} {r : Row} {end i : ℕ} (h : Matching s p u before at r out end i) where
+  taken : i < r.count → byte s p ≡ byte u (place r i) → matching_bytes s p u (rest u r i) ≡ transition_bytes (joint (locations u) (transition_at s p) (transition_at u (place r i))) ++ matching_bytes s p u (rest u r (i + 1))
   unfolding transitions_bytes
-  taken some e = ap transitions_bytes (matching_next (locations u) (transition_at s p) u m q some e)
+  taken some e = ap transitions_bytes (matching_next (locations u) (transition_at s p) u r i some e)
 
   -- There is room for one that matches.
-  pub matching_room : 0 < m → byte s p ≡ byte u q → end + 7 ≤ length out
-  matching_room some e = part_room (transition_bytes (joint (locations u) (transition_at s p) (transition_at u q))) (matching_bytes s p u (m - 1) (q + 7)) (filling_as h.filling (taken some e)) h.room
+  pub matching_room : i < r.count → byte s p ≡ byte u (place r i) → end + 7 ≤ length out
+  matching_room some e = part_room (transition_bytes (joint (locations u) (transition_at s p) (transition_at u (place r i)))) (matching_bytes s p u (rest u r (i + 1))) (filling_as h.filling (taken some e)) h.room
 
-  pub matching_put : {after : Bytes} {end' : ℕ} → 0 < m → byte s p ≡ byte u q → Wrote out end (transition_bytes (joint (locations u) (transition_at s p) (transition_at u q))) after end' → length after ≡ length out → Matching s p u before at n q₀ after end' (m - 1) (q + 7)
-  matching_put some e w l = record { room = h.room; fit = rest_fits some h.fit; filling = filling_more (filling_as h.filling (taken some e)) h.room w l }
+  pub matching_put : {after : Bytes} {end' : ℕ} → i < r.count → byte s p ≡ byte u (place r i) → Wrote out end (transition_bytes (joint (locations u) (transition_at s p) (transition_at u (place r i)))) after end' → length after ≡ length out → Matching s p u before at r after end' (i + 1)
+  matching_put some e w l = record { room = h.room; filling = filling_more (filling_as h.filling (taken some e)) h.room w l }
 
-  pub matching_left : 0 < m → (byte s p ≡ byte u q → ⊥) → Matching s p u before at n q₀ out end (m - 1) (q + 7)
-  matching_left some e = record { room = h.room; fit = rest_fits some h.fit; filling = filling_as h.filling (ap transitions_bytes (other_next (locations u) (transition_at s p) u m q some e)) }
+  pub matching_left : i < r.count → (byte s p ≡ byte u (place r i) → ⊥) → Matching s p u before at r out end (i + 1)
+  matching_left some e = record { room = h.room; filling = filling_as h.filling (ap transitions_bytes (other_next (locations u) (transition_at s p) u r i some e)) }
 
-  pub matching_done : m ≡ 0 → Wrote before at (matching_bytes s p u n q₀) out end
+  pub matching_done : r.count ≤ i → Wrote before at (matching_bytes s p u (row_transitions u r)) out end
   unfolding transitions_bytes
-  matching_done e = filling_all h.filling (ap transitions_bytes (matching_none (locations u) (transition_at s p) u m q e))
+  matching_done e = filling_all h.filling (ap transitions_bytes (matching_none (locations u) (transition_at s p) u r i e))
 
 -- ---- Those of a location
 
--- Of n transitions of the first sheet, from p₀ on, m from p on are ahead.
-pub record Laying (s : Bytes) (w : ℕ) (vs : List Transition) (before : Bytes) (at n p₀ : ℕ) (out : Bytes) (end m p : ℕ) : Type 0 where
-  pub room : at + length (transitions_bytes (joints w (transitions_from s n p₀) vs)) ≤ length before
-  pub fit : FittingRow s (row m p)
-  pub filling : Filling before at (transitions_bytes (joints w (transitions_from s n p₀) vs)) out end (transitions_bytes (joints w (transitions_from s m p) vs))
+-- Those of the first sheet's row from i on are ahead.
+pub record Laying (s : Bytes) (w : ℕ) (vs : List Transition) (before : Bytes) (at : ℕ) (r : Row) (out : Bytes) (end i : ℕ) : Type 0 where
+  pub room : at + length (transitions_bytes (joints w (row_transitions s r) vs)) ≤ length before
+  pub filling : Filling before at (transitions_bytes (joints w (row_transitions s r) vs)) out end (transitions_bytes (joints w (rest s r i) vs))
 
-pub laying_begun : (s : Bytes) (w : ℕ) (vs : List Transition) (before : Bytes) (at n p : ℕ) → at + length (transitions_bytes (joints w (transitions_from s n p) vs)) ≤ length before → FittingRow s (row n p) → Laying s w vs before at n p before at n p
-laying_begun s w vs before at n p r f = record { room = r; fit = f; filling = filling_none before at (transitions_bytes (joints w (transitions_from s n p) vs)) }
+pub laying_begun : (s : Bytes) (w : ℕ) (vs : List Transition) (before : Bytes) (at : ℕ) (r : Row) → at + length (transitions_bytes (joints w (row_transitions s r) vs)) ≤ length before → Laying s w vs before at r before at 0
+laying_begun s w vs before at r h = record { room = h; filling = filling_as (filling_none before at (transitions_bytes (joints w (row_transitions s r) vs))) (ap (λ (ts : List Transition). transitions_bytes (joints w ts vs)) (rest_all s r)) }
 
-module _ {s : Bytes} {w : ℕ} {vs : List Transition} {before out : Bytes} {at n p₀ end m p : ℕ} (h : Laying s w vs before at n p₀ out end m p) where
-  one : 0 < m → transitions_bytes (joints w (transitions_from s m p) vs) ≡ transitions_bytes (joints_of w (transition_at s p) vs) ++ transitions_bytes (joints w (transitions_from s (m - 1) (p + 7)) vs)
-  one some = ap transitions_bytes (joints_next w s m p vs some) ∙ bytes_append (joints_of w (transition_at s p) vs) (joints w (transitions_from s (m - 1) (p + 7)) vs)
+module _ {s : Bytes} {w : ℕ} {vs : List Transition} {before out : Bytes} {at : ℕ} {r : Row} {end i : ℕ} (h : Laying s w vs before at r out end i) where
+  one : i < r.count → transitions_bytes (joints w (rest s r i) vs) ≡ transitions_bytes (joints_of w (transition_at s (place r i)) vs) ++ transitions_bytes (joints w (rest s r (i + 1)) vs)
+  one some = ap transitions_bytes (joints_next w s r i vs some) ∙ bytes_append (joints_of w (transition_at s (place r i)) vs) (joints w (rest s r (i + 1)) vs)
 
-  pub laying_room : 0 < m → end + length (transitions_bytes (joints_of w (transition_at s p) vs)) ≤ length out
-  laying_room some = part_room (transitions_bytes (joints_of w (transition_at s p) vs)) (transitions_bytes (joints w (transitions_from s (m - 1) (p + 7)) vs)) (filling_as h.filling (one some)) h.room
+  pub laying_room : i < r.count → end + length (transitions_bytes (joints_of w (transition_at s (place r i)) vs)) ≤ length out
+  laying_room some = part_room (transitions_bytes (joints_of w (transition_at s (place r i)) vs)) (transitions_bytes (joints w (rest s r (i + 1)) vs)) (filling_as h.filling (one some)) h.room
 
-  pub laying_put : {after : Bytes} {end' : ℕ} → 0 < m → Wrote out end (transitions_bytes (joints_of w (transition_at s p) vs)) after end' → length after ≡ length out → Laying s w vs before at n p₀ after end' (m - 1) (p + 7)
-  laying_put some x l = record { room = h.room; fit = rest_fits some h.fit; filling = filling_more (filling_as h.filling (one some)) h.room x l }
+  pub laying_put : {after : Bytes} {end' : ℕ} → i < r.count → Wrote out end (transitions_bytes (joints_of w (transition_at s (place r i)) vs)) after end' → length after ≡ length out → Laying s w vs before at r after end' (i + 1)
+  laying_put some x l = record { room = h.room; filling = filling_more (filling_as h.filling (one some)) h.room x l }
 
-  pub laying_done : m ≡ 0 → Wrote before at (transitions_bytes (joints w (transitions_from s n p₀) vs)) out end
+  pub laying_done : r.count ≤ i → Wrote before at (transitions_bytes (joints w (row_transitions s r) vs)) out end
   unfolding transitions_bytes
-  laying_done e = filling_all h.filling (ap transitions_bytes (joints_none w s m p vs e))
+  laying_done e = filling_all h.filling (ap transitions_bytes (joints_none w s r i vs e))
 
 -- ---- All of them
 

@@ -3,7 +3,7 @@
 use mathlib.Core.Path.{◌≡◌, sym, ap, ap₂, ◌∙◌, subst}
 use mathlib.Core.Bool.{Bool, cond}
 use mathlib.Core.List.{List, [], ◌∷◌, ◌++◌}
-use Prim.Native.Nat.{ℕ, suc, ◌+◌, ◌-◌, ◌*◌, ◌/◌, ◌≤◌, ◌<◌}
+use Prim.Native.Nat.{ℕ, zero, suc, ◌+◌, ◌-◌, ◌*◌, ◌/◌, ◌≤◌, ◌<◌}
 use native.Mathlib.Omega.{arith}
 use native.Mathlib.Numerals.{add-one}
 use lib.Dec.{eqb}
@@ -17,11 +17,11 @@ use Rattle.retimer.proofs.SheetLaws.{from_step}
 use Rattle.product.specs.declared.location.Both.{Both}
 use Rattle.product.specs.declared.row.Row.{Row}
 use Rattle.product.specs.Product.{joint, joints_of, joints, location_at, locations_from, Joinable}
-use Rattle.product.specs.Rows.{BothRight, row_transitions, RowIn, RowRight, FittingAt, FittingRow}
+use Rattle.product.specs.Rows.{BothRight, row_transitions, RowRight, FittingAt, FittingRow}
 use Rattle.product.proofs.Pairing.{pair_below}
 
--- A row as the loops have it: so many transitions from a place on.
-abbrev pub row : ℕ → ℕ → Row
+-- So many transitions from a place on.
+abbrev row : ℕ → ℕ → Row
 row n q = record { first = q; count = n }
 
 -- The row of a location.
@@ -41,19 +41,38 @@ row_fits {s} {l} {r} h k = record { row_in = k.row_in; all_fit_lem = subst (AllF
 
 -- ---- One after the other
 
-module _ {s : Bytes} {n q : ℕ} (some : 0 < n) where
-  pub row_next : RowIn s (row n q) → RowIn s (row (n - 1) (q + 7))
-  row_next r = record { short = omega (arith, r.short); inside = omega (arith, r.inside) }
+-- Where transition i of a row lies, and the transitions from it on.
+abbrev pub place : Row → ℕ → ℕ
+place r i = r.first + 7 * i
 
-  module _ (f : FittingRow s (row n q)) where
-    both : Fits s (transition_at s q) × AllFit s (transitions_from s (n - 1) (q + 7))
-    both = subst (AllFit s) (from_step s n q some) f.all_fit_lem
+abbrev pub rest : Bytes → Row → ℕ → List Transition
+rest s r i = transitions_from s (r.count - i) (place r i)
 
-    pub first_fits : FittingAt s q
-    first_fits = record { inside = omega (arith, f.row_in.inside); fits = both.0 }
+pub rest_all : (s : Bytes) (r : Row) → row_transitions s r ≡ rest s r 0
+rest_all s r =
+    let a : r.count ≡ r.count - 0 = omega arith in
+    let b : r.first ≡ place r 0 = omega arith in
+    ap₂ (transitions_from s) a b
 
-    pub rest_fits : FittingRow s (row (n - 1) (q + 7))
-    rest_fits = record { row_in = row_next f.row_in; all_fit_lem = both.1 }
+pub rest_next : (s : Bytes) (r : Row) (i : ℕ) → i < r.count → rest s r i ≡ transition_at s (place r i) ∷ rest s r (i + 1)
+rest_next s r i h =
+    let a : r.count - i - 1 ≡ r.count - (i + 1) = omega arith in
+    let b : place r i + 7 ≡ place r (i + 1) = omega arith in
+    from_step s (r.count - i) (place r i) (omega arith) ∙ ap₂ (λ (k q : ℕ). transition_at s (place r i) ∷ transitions_from s k q) a b
+
+pub rest_none : (s : Bytes) (r : Row) (i : ℕ) → r.count ≤ i → rest s r i ≡ []
+rest_none s r i h = let a : r.count - i ≡ 0 = omega arith in ap (λ (k : ℕ). transitions_from s k (place r i)) a
+
+-- Each of them fits where all do.
+fits_from : (s : Bytes) (n q i : ℕ) → AllFit s (transitions_from s n q) → i < n → Fits s (transition_at s (q + 7 * i))
+fits_from s zero q i f h = absurd (omega arith)
+fits_from s (suc n) q zero f h = let e : q ≡ q + 7 * 0 = omega arith in subst (λ (k : ℕ). Fits s (transition_at s k)) e f.0
+fits_from s (suc n) q (suc i) f h =
+    let e : q + 7 + 7 * i ≡ q + 7 * suc i = omega arith in
+    subst (λ (k : ℕ). Fits s (transition_at s k)) e (fits_from s n (q + 7) i f.1 (omega arith))
+
+pub fitting_at : {s : Bytes} {r : Row} (i : ℕ) → i < r.count → FittingRow s r → FittingAt s (place r i)
+fitting_at {s} {r} i h f = record { inside = omega (arith, f.row_in.inside); fits = fits_from s r.count r.first i f.all_fit_lem h }
 
 -- ---- Joint transitions
 
@@ -61,29 +80,29 @@ module _ {s : Bytes} {n q : ℕ} (some : 0 < n) where
 pub target_fits : {s u : Bytes} {p q : ℕ} → Joinable s u → FittingAt s p → FittingAt u q → byte s (p + 1) * locations u + byte u (q + 1) < max_count
 target_fits {s} {u} {p} {q} h f g = omega (arith, h.locations_fit, pair_below (locations s) (locations u) (byte s (p + 1)) (byte u (q + 1)) f.fits.target_fits g.fits.target_fits)
 
-module _ (n : ℕ) (t : Transition) (u : Bytes) (k q : ℕ) (some : 0 < k) where
-  next_of : joints_of n t (transitions_from u k q) ≡ cond (eqb t.action (byte u q)) (joint n t (transition_at u q) ∷ joints_of n t (transitions_from u (k - 1) (q + 7))) (joints_of n t (transitions_from u (k - 1) (q + 7)))
+module _ (n : ℕ) (t : Transition) (u : Bytes) (r : Row) (i : ℕ) (some : i < r.count) where
+  next_of : joints_of n t (rest u r i) ≡ cond (eqb t.action (byte u (place r i))) (joint n t (transition_at u (place r i)) ∷ joints_of n t (rest u r (i + 1))) (joints_of n t (rest u r (i + 1)))
   unfolding joints_of
-  next_of = ap (joints_of n t) (from_step u k q some)
+  next_of = ap (joints_of n t) (rest_next u r i some)
 
-  pub matching_next : t.action ≡ byte u q → joints_of n t (transitions_from u k q) ≡ joint n t (transition_at u q) ∷ joints_of n t (transitions_from u (k - 1) (q + 7))
-  matching_next e = next_of ∙ ap (λ (b : Bool). cond b (joint n t (transition_at u q) ∷ joints_of n t (transitions_from u (k - 1) (q + 7))) (joints_of n t (transitions_from u (k - 1) (q + 7)))) (eq-eqb t.action (byte u q) e)
+  pub matching_next : t.action ≡ byte u (place r i) → joints_of n t (rest u r i) ≡ joint n t (transition_at u (place r i)) ∷ joints_of n t (rest u r (i + 1))
+  matching_next e = next_of ∙ ap (λ (b : Bool). cond b (joint n t (transition_at u (place r i)) ∷ joints_of n t (rest u r (i + 1))) (joints_of n t (rest u r (i + 1)))) (eq-eqb t.action (byte u (place r i)) e)
 
-  pub other_next : (t.action ≡ byte u q → ⊥) → joints_of n t (transitions_from u k q) ≡ joints_of n t (transitions_from u (k - 1) (q + 7))
-  other_next e = next_of ∙ ap (λ (b : Bool). cond b (joint n t (transition_at u q) ∷ joints_of n t (transitions_from u (k - 1) (q + 7))) (joints_of n t (transitions_from u (k - 1) (q + 7)))) (ne_eqb t.action (byte u q) e)
+  pub other_next : (t.action ≡ byte u (place r i) → ⊥) → joints_of n t (rest u r i) ≡ joints_of n t (rest u r (i + 1))
+  other_next e = next_of ∙ ap (λ (b : Bool). cond b (joint n t (transition_at u (place r i)) ∷ joints_of n t (rest u r (i + 1))) (joints_of n t (rest u r (i + 1)))) (ne_eqb t.action (byte u (place r i)) e)
 
-pub matching_none : (n : ℕ) (t : Transition) (u : Bytes) (k q : ℕ) → k ≡ 0 → joints_of n t (transitions_from u k q) ≡ []
+pub matching_none : (n : ℕ) (t : Transition) (u : Bytes) (r : Row) (i : ℕ) → r.count ≤ i → joints_of n t (rest u r i) ≡ []
 unfolding joints_of
-matching_none n t u k q e = ap (λ (i : ℕ). joints_of n t (transitions_from u i q)) e
+matching_none n t u r i e = ap (joints_of n t) (rest_none u r i e)
 
-module _ (n : ℕ) (s : Bytes) (k p : ℕ) (vs : List Transition) where
-  pub joints_next : 0 < k → joints n (transitions_from s k p) vs ≡ joints_of n (transition_at s p) vs ++ joints n (transitions_from s (k - 1) (p + 7)) vs
+module _ (n : ℕ) (s : Bytes) (r : Row) (i : ℕ) (vs : List Transition) where
+  pub joints_next : i < r.count → joints n (rest s r i) vs ≡ joints_of n (transition_at s (place r i)) vs ++ joints n (rest s r (i + 1)) vs
   unfolding joints
-  joints_next some = ap (λ (ts : List Transition). joints n ts vs) (from_step s k p some)
+  joints_next some = ap (λ (ts : List Transition). joints n ts vs) (rest_next s r i some)
 
-  pub joints_none : k ≡ 0 → joints n (transitions_from s k p) vs ≡ []
+  pub joints_none : r.count ≤ i → joints n (rest s r i) vs ≡ []
   unfolding joints
-  joints_none e = ap (λ (i : ℕ). joints n (transitions_from s i p) vs) e
+  joints_none e = ap (λ (ts : List Transition). joints n ts vs) (rest_none s r i e)
 
 -- ---- Locations
 

@@ -1,5 +1,5 @@
 -- Joining two sheets: why it refuses, what it answers, and what is promised of it (request F-6 of document 02).
-use Rattle.std.specs.Prelude.{◌≡◌, Bool, true, false, ◌&&◌, ◌++◌, ◌⊎◌, ◌↔◌, ℕ, ◌+◌, ◌-◌, ◌*◌, ◌≤◌, ◌<◌, leb, eqb, length, take, drop, replicate}
+use Rattle.std.specs.Prelude.{◌≡◌, Bool, true, false, ◌&&◌, ◌++◌, ◌⊎◌, ◌↔◌, ℕ, ◌+◌, ◌-◌, ◌*◌, ◌≤◌, ◌<◌, leb, eqb, length, take, drop, replicate, Result, Ok, Err}
 use Rattle.enforcement.specs.Limits.{max_count, max_transitions, max_size}
 use Rattle.enforcement.specs.Automaton.{Bytes, locations, clocks, actions}
 use Rattle.enforcement.specs.Reason.{Reason}
@@ -7,8 +7,8 @@ use Rattle.enforcement.specs.Reason as reason
 use Rattle.enforcement.specs.Loading.{Checked, accepted}
 use Rattle.enforcement.specs.Loading as loading
 use Rattle.retimer.specs.Reasons.{reason_of}
-use Rattle.product.specs.declared.join.Answer.{Answer}
-use Rattle.product.specs.declared.join.Answer.TheVariants.{Joined, Length, First, Second, Actions, Size, Transitions}
+use Rattle.product.specs.declared.join.Refusal as code
+use Rattle.product.specs.declared.join.Refusal.TheVariants.{Length, First, Second, Actions, Size, Transitions}
 use Rattle.product.specs.Product.{product_transitions, joined, Joinable, ReadsBoth, Loadable, RunsBoth}
 
 -- ---- When joining refuses
@@ -104,15 +104,15 @@ pub record CheckRight (m : ℕ) (s u : Bytes) : Type 0 where
 
 -- ---- The code
 
--- The outcome that a declared answer stands for.
-abbrev pub outcome_of : Answer → Outcome
-outcome_of (Joined n) = written n
-outcome_of Length = refused i_9
-outcome_of (First r) = refused (of_first (reason_of r))
-outcome_of (Second r) = refused (of_second (reason_of r))
-outcome_of Actions = refused i_12
-outcome_of Size = refused i_13
-outcome_of Transitions = refused i_14
+-- The outcome that an answer of the code stands for.
+abbrev pub outcome_of : Result ℕ code.Refusal → Outcome
+outcome_of (Ok n) = written n
+outcome_of (Err Length) = refused i_9
+outcome_of (Err (First r)) = refused (of_first (reason_of r))
+outcome_of (Err (Second r)) = refused (of_second (reason_of r))
+outcome_of (Err Actions) = refused i_12
+outcome_of (Err Size) = refused i_13
+outcome_of (Err Transitions) = refused i_14
 
 -- What is promised of the output: it is the joined sheet with zeros behind it, or after a refusal what it was.
 pub record OutputRight (s u before after : Bytes) : Type 0 where
@@ -120,7 +120,7 @@ pub record OutputRight (s u before after : Bytes) : Type 0 where
   pub untouched : (r : Refusal) → answer (length before) s u ≡ refused r → after ≡ before
 
 -- What joining promises.
-pub record JoinRight (s u before : Bytes) (r : Answer) (after : Bytes) : Type 0 where
+pub record JoinRight (s u before : Bytes) (r : Result ℕ code.Refusal) (after : Bytes) : Type 0 where
   pub answered : outcome_of r ≡ answer (length before) s u
   pub output_right : OutputRight s u before after
 

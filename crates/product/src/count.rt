@@ -16,14 +16,10 @@ fn matching(first: &[u8], p: usize, second: &[u8], row: Row) -> usize
 {
     let action = first[p];
     let mut k: usize = 0;
-    let mut q = row.first;
-    let mut left = row.count;
-    while 0 < left {
-        if second[q] == action {
+    for i in 0..row.count {
+        if second[row.first + 7 * i] == action {
             k += 1;
         }
-        q += 7;
-        left -= 1;
     }
     k
 }
@@ -37,12 +33,8 @@ pub fn at(first: &[u8], second: &[u8], l: usize) -> usize
     let a = row::of(first, both.first);
     let b = row::of(second, both.second);
     let mut k: usize = 0;
-    let mut p = a.first;
-    let mut left = a.count;
-    while 0 < left {
-        k += matching(first, p, second, b);
-        p += 7;
-        left -= 1;
+    for i in 0..a.count {
+        k += matching(first, a.first + 7 * i, second, b);
     }
     k
 }
@@ -52,12 +44,9 @@ pub fn all(first: &[u8], second: &[u8]) -> usize
     requires { (WellFormed first.now) × ((WellFormed second.now) × (locations first.now * locations second.now ≤ max_count)) }
     ensures { result ≡ length (product_transitions first.now second.now) }
 {
-    let count = location::count(first, second);
     let mut k: usize = 0;
-    let mut l: usize = 0;
-    while l < count {
+    for l in 0..location::count(first, second) {
         k += at(first, second, l);
-        l += 1;
     }
     k
 }

@@ -14,10 +14,8 @@ fn accepts(first: &[u8], second: &[u8], l: usize) -> bool
     ensures { result ≡ (location_at first.now second.now l).accepting }
 {
     let both = location::of(first, second, l);
-    if !locations::has(bytes::word_at(first, 4) as u16, both.first) {
-        return false;
-    }
-    locations::has(bytes::word_at(second, 4) as u16, both.second)
+    locations::has(bytes::word_at(first, 4) as u16, both.first)
+        && locations::has(bytes::word_at(second, 4) as u16, both.second)
 }
 
 // The accepting locations, the first one's bit lowest.
@@ -26,9 +24,7 @@ fn accepting_set(first: &[u8], second: &[u8]) -> usize
     ensures { (result ≡ accepting_set (all_locations first.now second.now)) × (result < 65536) }
 {
     let mut set: usize = 0;
-    let mut l = location::count(first, second);
-    while 0 < l {
-        l -= 1;
+    for l in (0..location::count(first, second)).rev() {
         set *= 2;
         if accepts(first, second, l) {
             set += 1;
@@ -42,14 +38,14 @@ pub fn put_header(first: &[u8], second: &[u8], out: &mut [u8]) -> usize
     requires { (Joinable first.now second.now) × (6 ≤ length out.old) }
     ensures { Wrote out.old 0 (header_bytes (product first.now second.now)) out.new result }
 {
-    let set = accepting_set(first, second);
+    let [low, high] = (accepting_set(first, second) as u16).to_le_bytes();
     let header = [
         first[0] * second[0],
         first[1] + second[1],
         first[2],
         first[3] * second[0] + second[3],
-        (set % 256) as u8,
-        (set / 256) as u8,
+        low,
+        high,
     ];
     bytes::put(out, 0, &header)
 }
@@ -59,13 +55,8 @@ fn put_pair(out: &mut [u8], at: usize, place: usize, size: usize) -> usize
     requires { (place < 65536) × ((size < 65536) × (at + 4 ≤ length out.old)) }
     ensures { Wrote out.old at (word_bytes place ++ word_bytes size) out.new result }
 {
-    let pair = [
-        (place % 256) as u8,
-        (place / 256) as u8,
-        (size % 256) as u8,
-        (size / 256) as u8,
-    ];
-    bytes::put(out, at, &pair)
+    let end = bytes::put(out, at, &(place as u16).to_le_bytes());
+    bytes::put(out, end, &(size as u16).to_le_bytes())
 }
 
 // The pairs.
@@ -76,12 +67,10 @@ pub fn put_pairs(first: &[u8], second: &[u8], out: &mut [u8], at: usize) -> usiz
     let count = location::count(first, second);
     let mut end = at;
     let mut place = 6 + 4 * count;
-    let mut l: usize = 0;
-    while l < count {
+    for l in 0..count {
         let size = 7 * count::at(first, second, l);
         end = put_pair(out, end, place, size);
         place += size;
-        l += 1;
     }
     end
 }

@@ -10,13 +10,10 @@ use crate::{count, header, location, transitions};
 use retimer::limits::Monitor;
 use retimer::reason::Reason;
 use retimer::sheet;
-use retimer::sheet::Checked;
 
-// What joining answers.
+// Why two sheets are not joined.
 #[derive(Clone, Copy)]
-pub enum Answer {
-    // How many bytes the joined sheet has.
-    Joined(usize),
+pub enum Refusal {
     // I-9: an output of another length.
     Length,
     // The first sheet's own refusal, or the second's.
@@ -30,40 +27,34 @@ pub enum Answer {
     Transitions,
 }
 
-// The answer for two sheets that load.
-fn fitting(first: &[u8], second: &[u8]) -> Answer
+// The answer for two sheets that load: how many bytes the joined sheet has.
+fn fitting(first: &[u8], second: &[u8]) -> Result<usize, Refusal>
     requires { (WellFormed first.now) × (WellFormed second.now) }
     ensures { outcome_of result ≡ fitting first.now second.now }
 {
     if first[2] != second[2] {
-        return Answer::Actions;
+        return Err(Refusal::Actions);
     }
     if 2 < first[1] + second[1] {
-        return Answer::Size;
+        return Err(Refusal::Size);
     }
     let locations = location::count(first, second);
     if Monitor::COUNT < locations {
-        return Answer::Size;
+        return Err(Refusal::Size);
     }
     let n = count::all(first, second);
     if Monitor::TRANSITIONS < n {
-        return Answer::Transitions;
+        return Err(Refusal::Transitions);
     }
-    Answer::Joined(6 + 4 * locations + 7 * n)
+    Ok(6 + 4 * locations + 7 * n)
 }
 
 // The answer for two sheets, and an output of the right length.
-fn check(first: &[u8], second: &[u8]) -> Answer
+fn check(first: &[u8], second: &[u8]) -> Result<usize, Refusal>
     ensures { outcome_of result ≡ own of_first (loading.check first.now 0) (own of_second (loading.check second.now 0) (fitting first.now second.now)) }
 {
-    match sheet::check(first, 0) {
-        Checked::Refused(r) => return Answer::First(r),
-        Checked::Accepted(_) => {}
-    }
-    match sheet::check(second, 0) {
-        Checked::Refused(r) => return Answer::Second(r),
-        Checked::Accepted(_) => {}
-    }
+    sheet::check(first, 0).map_err(Refusal::First)?;
+    sheet::check(second, 0).map_err(Refusal::Second)?;
     fitting(first, second)
 }
 
@@ -72,11 +63,7 @@ fn clear(out: &mut [u8], at: usize)
     requires { at ≤ length out.old }
     ensures { out.new ≡ take at out.old ++ replicate (length out.old - at) 0 }
 {
-    let mut i = at;
-    while i < out.len() {
-        out[i] = 0;
-        i += 1;
-    }
+    out[at..].fill(0);
 }
 
 // Writes the joined sheet, and zeros behind it.
@@ -90,16 +77,14 @@ fn write(first: &[u8], second: &[u8], out: &mut [u8])
     clear(out, end);
 }
 
-// Joins two sheets into an output of 518 bytes. A refusal leaves the output as it is.
-pub fn join(first: &[u8], second: &[u8], out: &mut [u8]) -> Answer
+// Joins two sheets into an output of 518 bytes, and answers how many the joined sheet has. A refusal leaves the output as it is.
+pub fn join(first: &[u8], second: &[u8], out: &mut [u8]) -> Result<usize, Refusal>
     ensures { JoinRight first.now second.now out.old result out.new }
 {
     if out.len() != Monitor::SIZE {
-        return Answer::Length;
+        return Err(Refusal::Length);
     }
-    let answer = check(first, second);
-    if let Answer::Joined(_) = answer {
-        write(first, second, out);
-    }
-    answer
+    let length = check(first, second)?;
+    write(first, second, out);
+    Ok(length)
 }

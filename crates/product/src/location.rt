@@ -4,8 +4,6 @@ ghost use Rattle.enforcement.specs.Automaton.{locations};
 ghost use Rattle.enforcement.specs.Loading.{WellFormed};
 ghost use Rattle.product.specs.Rows.{BothRight};
 
-use retimer::bytes;
-
 // A location of each sheet.
 #[derive(Clone, Copy)]
 pub struct Both {
@@ -18,7 +16,7 @@ pub fn of(first: &[u8], second: &[u8], l: usize) -> Both
     requires { (WellFormed first.now) × ((WellFormed second.now) × (l < locations first.now * locations second.now)) }
     ensures { BothRight first.now second.now l result }
 {
-    let n = bytes::wide(second[0]);
+    let n = usize::from(second[0]);
     Both {
         first: l / n,
         second: l % n,
@@ -30,5 +28,5 @@ pub fn count(first: &[u8], second: &[u8]) -> usize
     requires { (WellFormed first.now) × (WellFormed second.now) }
     ensures { result ≡ locations first.now * locations second.now }
 {
-    bytes::wide(first[0]) * bytes::wide(second[0])
+    usize::from(first[0]) * usize::from(second[0])
 }

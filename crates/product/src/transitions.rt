@@ -35,14 +35,11 @@ fn put_matching(first: &[u8], p: usize, second: &[u8], row: Row, out: &mut [u8],
     ensures { Wrote out.old at (transitions_bytes (joints_of (locations second.now) (transition_at first.now p) (row_transitions second.now row))) out.new result }
 {
     let mut end = at;
-    let mut q = row.first;
-    let mut left = row.count;
-    while 0 < left {
+    for i in 0..row.count {
+        let q = row.first + 7 * i;
         if first[p] == second[q] {
             end = put_joint(first, p, second, q, out, end);
         }
-        q += 7;
-        left -= 1;
     }
     end
 }
@@ -56,12 +53,9 @@ fn put_at(first: &[u8], second: &[u8], l: usize, out: &mut [u8], at: usize) -> u
     let a = row::of(first, both.first);
     let b = row::of(second, both.second);
     let mut end = at;
-    let mut p = a.first;
-    let mut left = a.count;
-    while 0 < left {
+    for i in 0..a.count {
+        let p = a.first + 7 * i;
         end = put_matching(first, p, second, b, out, end);
-        p += 7;
-        left -= 1;
     }
     end
 }
@@ -71,12 +65,9 @@ pub fn put_all(first: &[u8], second: &[u8], out: &mut [u8], at: usize) -> usize
     requires { (Joinable first.now second.now) × (at + length (transitions_bytes (product_transitions first.now second.now)) ≤ length out.old) }
     ensures { Wrote out.old at (transitions_bytes (product_transitions first.now second.now)) out.new result }
 {
-    let count = location::count(first, second);
     let mut end = at;
-    let mut l: usize = 0;
-    while l < count {
+    for l in 0..location::count(first, second) {
         end = put_at(first, second, l, out, end);
-        l += 1;
     }
     end
 }

@@ -62,10 +62,6 @@ outcome_few h (refused r) = omega (arith, length-append (ascii "refused ") (reas
 pub answer_few : (a : Answer) → length (answer_text a) ≤ 90
 answer_few a = outcome_few (held_count_of a) (outcome_of a)
 
-pub tail_some : (n : ℕ) → (n ≡ 0 → ⊥) → tail_line n ≡ figure "tail " n ++ ascii "\n"
-tail_some zero h = absurd (h refl)
-tail_some (suc n) h = refl
-
 pub tail_few : (n : ℕ) → length (tail_line n) ≤ 26
 tail_few zero = omega arith
 tail_few (suc n) = omega (arith, length-append (figure "tail " (suc n)) (ascii "\n"), numeral_few (suc n))

@@ -11,7 +11,7 @@ use crate::text::{put_figure, put_number};
 use retimer::bytes::put;
 use retimer::limits::Slot;
 use retimer::reason::Reason;
-use retimer::sheet::{Checked, Counts};
+use retimer::sheet::Counts;
 use retimer::state::Answer;
 
 // Room for a call's line, and for a sheet's.
@@ -19,7 +19,7 @@ pub const LINE: usize = 120;
 
 pub const SHEET: usize = 128;
 
-// A reason as document 01 writes it.
+// A reason as document 01 writes it. No `impl Display`: its contract says nothing of the text, and a `String` needs a heap.
 fn spelled(r: Reason) -> [u8; 3]
     ensures { result ≡ reason_text (reason_of r) }
 {
@@ -80,13 +80,13 @@ fn refused_line(out: &mut [u8], at: usize, r: Reason) -> usize
 }
 
 // The first line, by what the check of the sheet answered.
-pub fn checked_line(out: &mut [u8], at: usize, c: Checked) -> usize
+pub fn checked_line(out: &mut [u8], at: usize, c: Result<Counts, Reason>) -> usize
     requires { at + 128 ≤ length out.old }
     ensures { Wrote out.old at (checked_line (checked_of c)) out.new result }
 {
     match c {
-        Checked::Accepted(k) => sheet_line(out, at, k),
-        Checked::Refused(r) => refused_line(out, at, r),
+        Ok(k) => sheet_line(out, at, k),
+        Err(r) => refused_line(out, at, r),
     }
 }
 

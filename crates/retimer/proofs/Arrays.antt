@@ -2,11 +2,11 @@
 -- Assumes nothing.
 use mathlib.Core.Path.{◌≡◌, refl, ap, sym, ◌∙◌}
 use mathlib.Core.List.{List, [], ◌∷◌, ◌++◌, map, map-append, append_assoc, append-nil}
-use Prim.Native.Nat.{ℕ, zero, suc, ◌+◌, ◌-◌, ◌≤◌, ◌<◌}
+use Prim.Native.Nat.{ℕ, zero, suc, ◌+◌, ◌≤◌, ◌<◌}
 use native.Mathlib.Omega.{arith}
 use native.Mathlib.Numerals.{add-one}
-use lib.ListN.{length, take, drop, get_or, set, replicate, length-drop, length-map}
-use lib.Seq.{take-suc-set, take-suc, take-nil, get_or-drop, drop-set-lt, drop-drop, take-length, length-take-le}
+use lib.ListN.{length, take, get_or, set, replicate, length-map}
+use lib.Seq.{take-suc-set, take-suc, length-take-le}
 use Rattle.enforcement.specs.History.{Request, Slot, actions_of, place}
 use Rattle.retimer.specs.declared.limits.Request as declared
 use Rattle.retimer.specs.declared.limits.Slot as slots
@@ -19,14 +19,6 @@ pub zero_at : (n i : ℕ) → ◌≡◌ {A = ℕ} (get_or (replicate n 0) i 0) 0
 zero_at zero i = refl
 zero_at (suc n) zero = refl
 zero_at (suc n) (suc i) = zero_at n i
-
--- ---- One list is copied to the front of another, place by place
-
-pub copied_more : (h r : List ℕ) (i : ℕ) → i < length h → i < length r → take i r ≡ take i h → take (i + 1) (set r i (get_or h i 0)) ≡ take (i + 1) h
-copied_more h r i a b e = rw (add-one, take-suc-set r i (get_or h i 0) b, take-suc h i 0 a, e)
-
-pub copied_whole : (h r : List ℕ) (i : ℕ) → i ≡ length h → take i r ≡ take i h → take (length h) r ≡ h
-copied_whole h r i z e = (rw z at e) ∙ take-length h
 
 -- ---- The actions of requests are copied, place by place
 
@@ -69,29 +61,3 @@ module _ (s r : List slots.Slot) (rs : List declared.Request) (ds : List ℕ) (n
 
   pub slots_last : (x : declared.Request) (k : ℕ) → i ≡ k → i ≤ length rs → map slot_of (take (n + (k + 1)) (set r (n + k) (record { request = x; date = get_or ds k 0 }))) ≡ map slot_of (take n s) ++ place (map request_of (take k rs) ++ (request_of x ∷ [])) (take (k + 1) ds)
   slots_last x k z a = rw z at (slots_one s r (map request_of (take i rs)) x ds n i (requests_length a) b h e)
-
--- ---- A list is moved down by one, place by place
-
-module _ {A : Type 0} (d : A) where
-  get_d_first : (q : List A) (j : ℕ) → get_or (drop j q) 0 d ≡ get_or q j d
-  get_d_first q j = get_or-drop j q 0 d ∙ ap (λ (n : ℕ). get_or q n d) (omega arith)
-
-  pub moved_more : (p r : List A) (i : ℕ) → length r ≡ length p → i + 1 < length p → take i r ≡ take i (drop 1 p) → drop (i + 1) r ≡ drop (i + 1) p → take (i + 1) (set r i (get_or r (i + 1) d)) ≡ take (i + 1) (drop 1 p)
-  moved_more p r i l h e f =
-      let x : get_or r (i + 1) d ≡ get_or p (i + 1) d = sym (get_d_first r (i + 1)) ∙ ap (λ (t : List A). get_or t 0 d) f ∙ get_d_first p (i + 1) in
-      let y : get_or (drop 1 p) i d ≡ get_or p (i + 1) d = get_or-drop 1 p i d ∙ ap (λ (n : ℕ). get_or p n d) (omega arith) in
-      let z : take (suc i) (drop 1 p) ≡ take i (drop 1 p) ++ (get_or (drop 1 p) i d ∷ []) = take-suc (drop 1 p) i d (rw length-drop (omega arith)) in
-      rw (add-one, take-suc-set r i (get_or r (suc i) d) (omega arith), z, e, y) (ap (λ (t : A). take i (drop 1 p) ++ (t ∷ [])) (rw (← add-one i) x))
-
-  pub moved_rest : (p r : List A) (i : ℕ) (v : A) → drop (i + 1) r ≡ drop (i + 1) p → drop (i + 1 + 1) (set r i v) ≡ drop (i + 1 + 1) p
-  moved_rest p r i v f = drop-set-lt (i + 1 + 1) r i v (omega arith) ∙ sym (drop-drop 1 (i + 1) r) ∙ ap (drop 1) f ∙ drop-drop 1 (i + 1) p
-
-take_tail : {A : Type 0} (n : ℕ) (l : List A) → take n (drop 1 l) ≡ drop 1 (take (suc n) l)
-take_tail n [] = take-nil n
-take_tail n (x ∷ l) = refl
-
-pub moved_whole : {A : Type 0} (p r : List A) (i n : ℕ) → i + 1 ≡ n → take i r ≡ take i (drop 1 p) → take (n - 1) r ≡ drop 1 (take n p)
-moved_whole p r i n h e =
-    let a : n - 1 ≡ i = omega arith in
-    let b : n ≡ suc i = omega arith in
-    rw (a, b) (e ∙ take_tail i p)

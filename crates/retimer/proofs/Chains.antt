@@ -1,20 +1,18 @@
 -- One transition on the way along a diagonal: which of its positions count, and what a chain gains by them.
 -- Assumes nothing.
 use mathlib.Core.Path.{◌≡◌, refl, ap, sym, ◌∙◌, subst, subst⁻¹}
-use mathlib.Core.Bool.{Bool, true, false, cond, ◌||◌, ◌&&◌}
+use mathlib.Core.Bool.{Bool, true, false, cond, ◌&&◌}
 use mathlib.Core.List.{List}
 use mathlib.Core.Logic.{◌⊎◌, inl, inr, ⊎_elim, ◌↔◌}
 use Prim.Native.Nat.{ℕ, zero, suc, ◌+◌, ◌-◌, ◌≤◌, ◌<◌, min, max}
 use native.Mathlib.Omega.{arith}
 use lib.Dec.{eqb}
-use lib.ListN.{length, get_or, set, length-set}
-use lib.Seq.{get_or-set_same, get_or-set_other}
+use lib.ListN.{get_or, set}
 use borrow.Author.Tests.{eqb-true, eqb-false, eq-eqb}
 use Rattle.enforcement.specs.Automaton.{Bytes, Transition, bit}
 use Rattle.enforcement.specs.TimedWord.{Configuration, fire}
 use Rattle.enforcement.specs.Model.{top, width}
 use Rattle.enforcement.proofs.Bits.{or_cases, or_shown}
-use Rattle.retimer.specs.Locations.{Added}
 use Rattle.retimer.specs.Waits.{first_wait, end_wait, along}
 use Rattle.retimer.specs.Next.{Leads}
 use Rattle.retimer.specs.Costs.{never, EndsBy, just_reset}
@@ -24,10 +22,6 @@ use Rattle.retimer.proofs.CostLaws.{le_or_lt, cost_waits}
 -- ---- The positions of a transition
 
 module _ (G : ℕ → Configuration → Type 0) (t : Transition) (x y e from : ℕ) (from_is : from ≡ max e (first_wait t x y)) where
-  -- It is not enabled from e on.
-  pub leads_none : end_wait t x y ≤ from → Leads G x y e t → ⊥
-  leads_none h w = omega (arith, w.reached, w.opened, w.open_still)
-
   -- Its first position is as good as any other.
   pub leads_first : from < end_wait t x y → ((u : ℕ) → from ≤ u → G u (fire t (along x y 0 u)) → G from (fire t (along x y 0 from))) → Leads G x y e t ↔ G from (fire t (along x y 0 from))
   leads_first h f = (
@@ -141,10 +135,6 @@ module _ (s : Bytes) (cs : List ℕ) (w : ℕ) (t : Transition) (x y e from : �
 -- ---- What a chain gains
 
 module _ (s : Bytes) (cs : List ℕ) (x y : ℕ) (here : List ℕ) (places w : ℕ) where
-  -- Nothing, where what is added ends no sooner.
-  pub covers_same : {Q : Type 0} (best : ℕ) → (Q → Covers s cs x y here places best w) → Covers s cs x y here places best w ↔ (Covers s cs x y here places best w ⊎ Q)
-  covers_same best f = (inl, ⊎_elim (λ a. a) f)
-
   -- A better least.
   pub covers_best : {Q : Type 0} (best v : ℕ) → (v ≤ w) ↔ ((best ≤ w) ⊎ Q) → Covers s cs x y here places v w ↔ (Covers s cs x y here places best w ⊎ Q)
   covers_best best v f = (
@@ -182,12 +172,6 @@ module _ (s : Bytes) (cs : List ℕ) (x y : ℕ) (here : List ℕ) (places w : �
 
 -- ---- As the code has it
 
-pub chosen : {A : Type 0} {b : Bool} (u v : A) → b ≡ true → u ≡ cond b u v
-chosen u v e = sym (ap (λ (b : Bool). cond b u v) e)
-
-pub left_out : {A : Type 0} {b : Bool} (u v : A) → b ≡ false → v ≡ cond b u v
-left_out u v e = sym (ap (λ (b : Bool). cond b u v) e)
-
 module _ (set x y u z : ℕ) where
   pub kept_second_lem : set ≡ 1 → z ≡ min (y + u) top → (z ≡ kept_at set x y u) × (z ≤ top)
   unfolding kept_at
@@ -215,31 +199,3 @@ worth_some set z n v a b h k = h ∙ ap (min n) (omega arith) ∙ go set a b
     go (suc (suc zero)) a b = refl
     go (suc (suc (suc zero))) a b = absurd (b refl)
     go (suc (suc (suc (suc m)))) a b = absurd (omega arith)
-
-module _ (here : List ℕ) (places t u : ℕ) (inside : t < length here) where
-  -- The location has it already.
-  stays : bit places t ≡ true → Added places t places
-  stays h = record { bits = λ j. go j (eqb j t) refl }
-    where
-      go : (j : ℕ) (b : Bool) → eqb j t ≡ b → bit places j ≡ (eqb j t || bit places j)
-      go j true e = ap (bit places) (eqb-true j t e) ∙ h ∙ sym (ap (λ (b : Bool). b || bit places j) e)
-      go j false e = sym (ap (λ (b : Bool). b || bit places j) e)
-
-  pub arrived_later : bit places t ≡ true → get_or here t 0 ≤ u → Arrived here places t u here places
-  arrived_later h k = record { added = stays h; same_length = refl; others = λ l e. refl; soon = k; sooner = λ e. omega arith; either = inr (h, refl) }
-
-  placed : get_or (set here t u) t 0 ≡ u
-  placed = get_or-set_same here t u 0 inside
-
-  pub arrived_first : (v : ℕ) → Added places t v → (bit places t ≡ true → u ≤ get_or here t 0) → Arrived here places t u (set here t u) v
-  arrived_first v a k = record {
-    added = a;
-    same_length = length-set here t u;
-    others = λ l e. get_or-set_other here t l u 0 e;
-    soon = omega (arith, placed);
-    sooner = λ e. let g = k e in omega (arith, placed);
-    either = inl placed;
-  }
-
-  pub arrived_sooner : bit places t ≡ true → u < get_or here t 0 → Arrived here places t u (set here t u) places
-  arrived_sooner h k = arrived_first places (stays h) (λ e. omega arith)

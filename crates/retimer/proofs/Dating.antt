@@ -10,14 +10,15 @@ use lib.ListN.{length, get_or, drop, set, length-drop}
 use Rattle.enforcement.specs.Automaton.{Bytes}
 use Rattle.enforcement.specs.TimedWord.{Configuration}
 use Rattle.enforcement.specs.Model.{top, ticks, after_step, prospect, compile}
+use Rattle.std.specs.Prelude.{Option as MaybeAhead, Some, None}
 use Rattle.retimer.specs.declared.lookup.Stepped.{Stepped}
 use Rattle.retimer.specs.declared.optimum.Reached.{Reached}
 use Rattle.retimer.specs.declared.optimum.Ahead.{Ahead}
 use Rattle.retimer.specs.Readings.{waited, located, Standing}
 use Rattle.retimer.specs.Steps.{optional, StepRight}
 use Rattle.retimer.specs.Optimum.{Asked, PlanRight}
-use Rattle.retimer.specs.Costs.{never, cost, cost_at, Known, Ground, Costed}
-use Rattle.retimer.specs.Dates.{played_now, AheadRight, Dating, Written}
+use Rattle.retimer.specs.Costs.{never, cost, cost_at, Ground, Costed}
+use Rattle.retimer.specs.Dates.{played_now, cost_ahead, AheadRight, Dating, Written}
 use Rattle.retimer.proofs.Valuations.{standing_waited}
 use Rattle.retimer.proofs.Prospects.{step_is, ticks_most}
 use Rattle.retimer.proofs.CostLaws.{cost_ticks}
@@ -30,18 +31,18 @@ module _ (s : Bytes) (cs : List ℕ) (k l : ℕ) (r : List ℕ) (v : Stepped) (h
   stepped b e = step_is s (get_or cs k 0) (located l r) ∙ sym h.is ∙ ap (λ (b : Bool). optional b (located v.location v.readings)) e
 
   -- It leads nowhere.
-  pub ahead_none : {first second : List ℕ} → Ground s cs first second → v.found ≡ false → AheadRight s cs k l r first second (record { cost = never; location = v.location; readings = v.readings })
+  pub ahead_none : {first second : List ℕ} → Ground s cs first second → v.found ≡ false → AheadRight s cs k l r first second None
   ahead_none d e = record {
     value_is = sym (ap (λ (o : Option Configuration). cost (after_step o (prospect (compile s) (drop (k + 1) cs)))) (stepped false e));
-    leads = λ q. absurd (omega arith);
-    standing = h.standing;
+    leads = tt;
+    standing = tt;
     ground = d;
   }
 
-  pub ahead_some : {first second : List ℕ} {n : ℕ} → Costed s cs first second (cost_at s (drop (k + 1) cs) (located v.location v.readings)) n → v.found ≡ true → AheadRight s cs k l r first second (record { cost = n; location = v.location; readings = v.readings })
+  pub ahead_some : {first second : List ℕ} {n : ℕ} → Costed s cs first second (cost_at s (drop (k + 1) cs) (located v.location v.readings)) n → v.found ≡ true → AheadRight s cs k l r first second (Some (record { cost = n; location = v.location; readings = v.readings }))
   ahead_some d e = record {
     value_is = d.value_is ∙ sym (ap (λ (o : Option Configuration). cost (after_step o (prospect (compile s) (drop (k + 1) cs)))) (stepped true e));
-    leads = λ q. stepped true e;
+    leads = stepped true e;
     standing = h.standing;
     ground = d.ground;
   }
@@ -55,14 +56,14 @@ module _ {s : Bytes} {cs : List ℕ} {k l : ℕ} {r : List ℕ} {t v : ℕ} {fir
   few_ticks : v < never
   few_ticks = omega (arith, ticks_most (compile s) (drop k cs) (located l r) v g.least, length-drop k cs, g.ground.few)
 
-  module _ {first second : List ℕ} {a : Ahead} (h : AheadRight s cs k l r first second a) where
-    -- Playing now keeps the least ticks.
+  -- Playing now keeps the least ticks.
+  module _ {first second : List ℕ} {a : Ahead} (h : AheadRight s cs k l r first second (Some a)) where
     module _ (keeps : a.cost ≡ v) where
       now : played_now s cs k (located l r) ≡ ticks v
       now = cost_ticks (played_now s cs k (located l r)) v (sym keeps ∙ h.value_is) few_ticks
 
       found : (compile s).step (get_or cs k 0) (located l r) ≡ some (located a.location a.readings)
-      found = h.leads (omega (arith, few_ticks))
+      found = h.leads
 
       pub dating_played : Dating s cs (k + 1) a.location a.readings t v first second out
       dating_played = record {
@@ -77,8 +78,15 @@ module _ {s : Bytes} {cs : List ℕ} {k l : ℕ} {r : List ℕ} {t v : ℕ} {fir
       pub playing_written : {before out' : List ℕ} {q : Reached} → length cs ≤ length before → Written s cs (k + 1) a.location a.readings t (set before k t) out' q → Written s cs k l r t before out' q
       playing_written {before} {out'} {q} room z = written_played s cs k l r dating_more g.standing.readings v g.least t a.location a.readings found now before out' q (omega (arith, dating_more)) z
 
-    -- It does not: a tick passes.
-    module _ (other : a.cost ≡ v → ⊥) {w : List ℕ} (is-waited : w ≡ waited 1 r) where
+  -- It does not, or cannot be: a tick passes.
+  pub other_some : {o : MaybeAhead Ahead} {a : Ahead} → o ≡ Some a → (a.cost ≡ v → ⊥) → cost_ahead o ≡ v → ⊥
+  other_some e f z = f (sym (ap cost_ahead e) ∙ z)
+
+  pub other_none : {o : MaybeAhead Ahead} → o ≡ None → cost_ahead o ≡ v → ⊥
+  other_none e z = omega (arith, ap cost_ahead e, few_ticks)
+
+  module _ {first second : List ℕ} {o : MaybeAhead Ahead} (h : AheadRight s cs k l r first second o) where
+    module _ (other : cost_ahead o ≡ v → ⊥) {w : List ℕ} (is-waited : w ≡ waited 1 r) where
       not_now : played_now s cs k (located l r) ≡ ticks v → ⊥
       not_now e = other (h.value_is ∙ ap cost e)
 
@@ -104,9 +112,6 @@ module _ {s : Bytes} {cs : List ℕ} {k l : ℕ} {r : List ℕ} {t v : ℕ} {fir
 -- ---- The whole plan
 
 module _ {s cs : List ℕ} {l : ℕ} {r : List ℕ} {t : ℕ} {out : List ℕ} (a : Asked s cs l r t out) where
-  pub plan_ground : {first second : List ℕ} → Known s cs false first → Known s cs true second → Ground s cs first second
-  plan_ground f g = record { loads = a.loads; few = a.few; after_first = f; after_second = g }
-
   module _ {first second : List ℕ} {v : ℕ} (f : Costed s cs first second (cost_at s (drop 0 cs) (located l r)) v) where
     least_is : prospect (compile s) cs (located l r) ≡ ticks v
     least_is = let e = a.correctable.1 in e ∙ ap ticks (sym (f.value_is ∙ ap cost e))

@@ -1,26 +1,22 @@
 -- The costs of all locations of a set, and their notes for all actions.
 -- Assumes nothing.
-use mathlib.Core.Path.{◌≡◌, refl, ap, sym, ◌∙◌, subst, subst⁻¹}
+use mathlib.Core.Path.{◌≡◌, sym, ◌∙◌, subst, subst⁻¹}
 use mathlib.Core.Bool.{Bool, true, false, cond}
 use mathlib.Core.List.{List, [], ◌∷◌}
 use mathlib.Core.Logic.{◌⊎◌, inl, inr}
 use Prim.Native.Nat.{ℕ, zero, suc, ◌+◌, ◌-◌, ◌*◌, ◌≤◌, ◌<◌}
 use native.Mathlib.Omega.{arith}
-use lib.Dec.{eqb}
 use lib.ListN.{length, get_or, drop, replicate, length-replicate}
-use lib.Seq.{drop-length}
-use borrow.Author.Tests.{eqb-true, eqb-false}
 use Rattle.enforcement.specs.Automaton.{Bytes, accepting, locations}
 use Rattle.enforcement.specs.Model.{width}
-use Rattle.retimer.specs.Costs.{never, configuration, place_of, Ground}
+use Rattle.retimer.specs.Costs.{never, configuration, place_of}
 use Rattle.retimer.specs.Row.{In}
 use Rattle.retimer.specs.Locations.{InSheet}
 use Rattle.retimer.specs.Targets.{EntersFrom, EntersFromAny, EntersAfter, Gathered}
-use Rattle.retimer.specs.Layers.{half, Chosen, ChosenFrom, Small, Laid, Layer, Laying, Ready, Cleared, LocationLaid, OneLaid, AllLaid, Noted, Full, NotedFrom, Lasts, Noting, Ended, LayersOf, Filled}
+use Rattle.retimer.specs.Layers.{half, Chosen, ChosenFrom, Small, Laid, Laying, Ready, Cleared, LocationLaid, AllLaid, Noted, Full, NotedFrom, Lasts, Noting, LayersOf, Filled}
 use Rattle.retimer.proofs.Arrays.{zero_at}
 use Rattle.retimer.proofs.CostLaws.{le_or_lt, end_cost}
 use Rattle.retimer.proofs.Prospects.{left_some}
-use Rattle.retimer.proofs.LayingRows.{chosen_last, chosen_before}
 use Rattle.retimer.proofs.LayingLocations.{layer_of}
 
 -- The part of a table that has costs: its locations from h on, those before l.
@@ -28,55 +24,6 @@ pub record Part (s cs : List ℕ) (h l : ℕ) (table : List ℕ) : Type 0 where
   pub size : length table ≡ half * (width * width)
   pub small : Small table
   pub laid : (m : ℕ) → m < half → h + m < l → h + m < locations s → Laid s cs (h + m) m table
-
-module _ {s cs : List ℕ} {h l : ℕ} {table : List ℕ} where
-  pub part_begun : {m : ℕ} → Ready m table → l ≤ h → Part s cs h l table
-  part_begun b k = record { size = b.size; small = b.small; laid = λ m a f g. absurd (omega arith) }
-
-  -- The location l is in this table.
-  pub part_gained : {m : ℕ} {next : List ℕ} → Part s cs h l table → m < half → h + m ≡ l → LocationLaid s cs l m table next → Part s cs h (l + 1) next
-  part_gained {m} {next} w k e g = record { size = g.others.same_length ∙ w.size; small = g.small; laid = λ n a f i. go n a f i (eqb n m) refl }
-    where
-      go : (n : ℕ) → n < half → h + n < l + 1 → h + n < locations s → (b : Bool) → eqb n m ≡ b → Laid s cs (h + n) n next
-      go n a f i true o = let q = eqb-true n m o in let r : h + n ≡ l = omega arith in subst⁻¹ (λ (j : ℕ). Laid s cs j n next) r (subst⁻¹ (λ (j : ℕ). Laid s cs l j next) q g.laid)
-      go n a f i false o = let q : n ≡ m → ⊥ = eqb-false n m o in λ x y u v. g.others.same n x y q u v ∙ w.laid n a (let z : h + n < l = omega arith in z) i x y u v
-
-  -- It is not.
-  pub part_other : Part s cs h l table → (l < h) ⊎ (h + half ≤ l) → Part s cs h (l + 1) table
-  part_other w (inl k) = record { size = w.size; small = w.small; laid = λ m a f i. absurd (omega arith) }
-  part_other w (inr k) = record { size = w.size; small = w.small; laid = λ m a f i. w.laid m a (omega arith) i }
-
--- Both tables with one more location.
-parts_next : {s cs : List ℕ} {l : ℕ} {low high low' high' : List ℕ} → Part s cs 0 l low → Part s cs half l high → l < half + half → OneLaid s cs l low high low' high' → Part s cs 0 (l + 1) low' × Part s cs half (l + 1) high'
-parts_next {s} {cs} {l} {low} {high} {low'} {high'} p q i g = side (le_or_lt half l)
-  where
-    side : (half ≤ l) ⊎ (l < half) → Part s cs 0 (l + 1) low' × Part s cs half (l + 1) high'
-    side (inl h) = let u = g.in_high h in (subst⁻¹ (Part s cs 0 (l + 1)) u.1 (part_other p (inr (omega arith))), part_gained q (omega arith) (omega arith) u.0)
-    side (inr h) = let u = g.in_low h in (part_gained p h (omega arith) u.0, subst⁻¹ (Part s cs half (l + 1)) u.1 (part_other q (inl h)))
-
--- ---- The notes of all locations
-
-module _ {s cs : List ℕ} {k h places : ℕ} {first second : List ℕ} where
-  pub notes_begun : Ground s cs first second → Noting s cs k (ChosenFrom h 0 places) first second first second
-  notes_begun g = record { first_kept = refl; second_kept = refl; ground = g; noted = λ l o. absurd (omega (arith, o.1.in_range)); first_lasts = λ i o. o; second_lasts = λ i o. o }
-
-  module _ {m : ℕ} {first' second' : List ℕ} (w : Noting s cs k (ChosenFrom h m places) first second first' second') where
-    pub notes_passed : (In (h + m) places → ⊥) → Noting s cs k (ChosenFrom h (m + 1) places) first second first' second'
-    notes_passed f = record { first_kept = w.first_kept; second_kept = w.second_kept; ground = w.ground; noted = λ l a. w.noted l (a.0, chosen_before f a.1, a.2); first_lasts = w.first_lasts; second_lasts = w.second_lasts }
-
-    pub notes_next : {first'' second'' : List ℕ} → Noting s cs k (λ (i : ℕ). i ≡ h + m) first' second' first'' second'' → Noting s cs k (ChosenFrom h (m + 1) places) first second first'' second''
-    notes_next {first''} {second''} d = record {
-      first_kept = d.first_kept ∙ w.first_kept;
-      second_kept = d.second_kept ∙ w.second_kept;
-      ground = d.ground;
-      noted = λ l a. go l a.0 a.2 (chosen_last a.1);
-      first_lasts = λ j o. d.first_lasts j (w.first_lasts j o);
-      second_lasts = λ j o. d.second_lasts j (w.second_lasts j o);
-    }
-      where
-        go : (l n : ℕ) → h + n ≡ l → (n ≡ m) ⊎ (Chosen h m places n × (n ≡ m → ⊥)) → Noted k l first'' second''
-        go l n q (inl e) = d.noted l (let r : l ≡ h + m = omega arith in r)
-        go l n q (inr o) = λ z u. let v = w.noted l (n, o.0, q) z u in (d.first_lasts (place_of k l z) v.0, d.second_lasts (place_of k l z) v.1)
 
 -- ---- Both tables
 
@@ -141,22 +88,6 @@ pub record InEnds (s low high : List ℕ) (l : ℕ) : Type 0 where
   pub low_part : Part s [] 0 l low
   pub high_part : Part s [] half l high
 
-module _ {s low high : List ℕ} where
-  pub ends_begun : Ready 0 low → Ready 0 high → InEnds s low high 0
-  ends_begun a b = record { not_past = omega arith; low_part = part_begun a (omega arith); high_part = part_begun b (omega arith) }
-
-  module _ {l : ℕ} (w : InEnds s low high l) where
-    pub ends_next : {low' high' : List ℕ} → l < locations s → l < half + half → OneLaid s [] l low high low' high' → InEnds s low' high' (l + 1)
-    ends_next o i g = let p = parts_next w.low_part w.high_part i g in record { not_past = omega arith; low_part = p.0; high_part = p.1 }
-
-    pub ends_done : locations s ≤ l → Ended s low high
-    ends_done h = record {
-      low_layer = record { size = w.low_part.size; laid = λ m a b. w.low_part.laid m a (omega arith) b };
-      high_layer = record { size = w.high_part.size; laid = λ m a b. w.high_part.laid m a (omega arith) b };
-      low_small = w.low_part.small;
-      high_small = w.high_part.small;
-    }
-
 -- ---- One action less
 
 module _ (k places : ℕ) {s cs : List ℕ} {next : ℕ} {low high first second : List ℕ} (w : LayersOf s cs (k + 1) next low high first second) (gathered : Gathered s (EntersFromAny s (get_or cs k 0) places) next) where
@@ -172,29 +103,9 @@ module _ (k places : ℕ) {s cs : List ℕ} {next : ℕ} {low high first second 
   pub full_next : Full s cs (k + 1) (EntersFromAny s (get_or cs k 0) places) first second
   full_next n i l a b c = w.full n i l a ((gathered.right i).1 b) c
 
-pub ready_low : {s cs : List ℕ} {k places : ℕ} {low high first second : List ℕ} → LayersOf s cs k places low high first second → Ready 0 low
-ready_low w = record { in_half = omega arith; size = w.low_layer.size; small = w.low_small }
-
-pub ready_high : {s cs : List ℕ} {k places : ℕ} {low high first second : List ℕ} → LayersOf s cs k places low high first second → Ready 0 high
-ready_high w = record { in_half = omega arith; size = w.high_layer.size; small = w.high_small }
-
 -- A table of zeros.
 pub ready_none : (n : ℕ) → n ≡ half * (width * width) → Ready 0 (replicate n 0)
 ready_none n e = record { in_half = omega arith; size = length-replicate n 0 ∙ e; small = λ i. omega (arith, zero_at n i) }
-
--- All is played after the last action.
-pub layers_ended : {s cs : List ℕ} {k places : ℕ} {low high first second : List ℕ} → k ≡ length cs → InSheet s places → Ended s low high → Ground s cs first second → LayersOf s cs k places low high first second
-layers_ended {s} {cs} {k} {places} {low} {high} e inside d g = record {
-  low_layer = subst⁻¹ (λ (ds : List ℕ). Layer s ds (λ (l : ℕ). In l places) 0 low) none (layer_of d.low_layer inside);
-  high_layer = subst⁻¹ (λ (ds : List ℕ). Layer s ds (λ (l : ℕ). In l places) half high) none (layer_of d.high_layer inside);
-  low_small = d.low_small;
-  high_small = d.high_small;
-  ground = g;
-  full = λ n i l a b c. absurd (omega arith);
-}
-  where
-    none : drop k cs ≡ []
-    none = ap (λ (n : ℕ). drop n cs) e ∙ drop-length cs
 
 -- ---- All actions but the first
 

@@ -2,13 +2,15 @@
 -- Assumes nothing.
 use mathlib.Core.Path.{◌≡◌, refl, ap, sym, ◌∙◌, subst⁻¹}
 use mathlib.Core.Bool.{Bool, true, false, cond}
-use mathlib.Core.List.{List}
+use mathlib.Core.List.{List, ◌++◌}
 use mathlib.Core.Logic.{◌⊎◌, inl, inr, ⊎_elim, ◌↔◌}
-use Prim.Native.Nat.{ℕ, ◌+◌, ◌*◌, ◌≤◌, ◌<◌}
+use Prim.Native.Nat.{ℕ, ◌+◌, ◌-◌, ◌*◌, ◌≤◌, ◌<◌}
 use native.Mathlib.Omega.{arith}
 use lib.Dec.{eqb}
-use lib.ListN.{length, get_or, drop, set, length-drop, length-set}
-use lib.Seq.{get_or-set_same, get_or-set_other}
+use lib.ListN.{length, get_or, take, drop, set, replicate, length-append, length-drop, length-replicate, length-set, get_or-append}
+use lib.Seq.{get_or-set_same, get_or-set_other, get_or-drop, length-take-le}
+use borrow.Rule.Slice.PartMut.{put_mid}
+use Rattle.std.proofs.lemmas.List.{get_or-take, get_or-replicate, get_or-append_right}
 use borrow.Author.Tests.{eqb-true, eqb-false}
 use Rattle.enforcement.specs.Limits.{max_count}
 use Rattle.enforcement.specs.Automaton.{Transition, bit, enabled, locations, transition_at, word}
@@ -20,7 +22,7 @@ use Rattle.enforcement.proofs.Tests.{true_false}
 use Rattle.retimer.specs.Costs.{never, cost_at, configuration, just_reset, place_of, Ground, Costed, AfterAsked}
 use Rattle.retimer.specs.Row.{In}
 use Rattle.retimer.specs.Targets.{Enters, EntersFrom}
-use Rattle.retimer.specs.Layers.{half, cell_of, cell, Small, Layer, Laid, Stretch, Chosen, AllTicked, Now, NowOne, BoxLowered, Laying, Ready, Cleared, Took, AtOnce, LocationWritten, AllWritten, AllLaid, Noted, Lasts, Noting}
+use Rattle.retimer.specs.Layers.{half, cell_of, cell, Small, Layer, Laid, Stretch, Chosen, AllTicked, Now, NowOne, BoxLowered, Laying, Ready, Cleared, Took, AtOnce, LocationWritten, AllWritten, AllLaid, Lasts}
 use Rattle.retimer.proofs.Left.{Left, left_whole, left_found, left_begun, left_inside, left_fits, left_next, left_none}
 use Rattle.retimer.proofs.Prospects.{left_some}
 use Rattle.retimer.proofs.CostLaws.{le_or_lt}
@@ -29,10 +31,6 @@ use Rattle.retimer.proofs.Laying.{laid}
 use Rattle.retimer.proofs.LayingRows.{chosen_last, chosen_before}
 
 -- ---- One transition
-
--- Another action's says nothing.
-pub took_none : (s after : List ℕ) {c : ℕ} (t : Transition) {m : ℕ} {table : List ℕ} → Small table → (t.action ≡ c → ⊥) → Took (λ x y w. Now s c after w x y t) m table table
-took_none s after t small f = record { others = record { same_length = refl; same = λ n x y g k l. refl }; small = small; takes = λ x y k l w h. (inl, ⊎_elim (λ u. u) (λ u. absurd (f u.0))) }
 
 kept_fits : (b : Bool) (z : ℕ) → z ≤ top → cond b 0 z ≤ top
 kept_fits true z h = omega arith
@@ -64,57 +62,51 @@ took_box {s} {after} {c} {v} {m} {t} {h} {other} {table} {table'} small for-acti
 
 -- ---- No costs
 
--- The places before i are cleared.
-pub record InClear (m c i : ℕ) (table table' : List ℕ) : Type 0 where
-  pub from_here : cell_of m 0 0 ≤ i
-  pub not_past : i ≤ cell_of (m + 1) 0 0
-  pub same_length : length table' ≡ length table
-  pub small : Small table'
-  pub done : (j : ℕ) → cell_of m 0 0 ≤ j → j < i → get_or table' j 0 ≡ c
-  pub rest : (j : ℕ) → (j < cell_of m 0 0) ⊎ (i ≤ j) → get_or table' j 0 ≡ get_or table j 0
+-- A table of which the k places from a on got the same cost.
+abbrev filled : ℕ → ℕ → ℕ → List ℕ → List ℕ
+filled a k c table = put_mid a k table (replicate k c)
 
-module _ {m c : ℕ} {table : List ℕ} (b : Ready m table) (c-small : c ≤ never) where
-  pub clear_begun : {i : ℕ} → i ≡ cell_of m 0 0 → InClear m c i table table
-  clear_begun e = record { from_here = omega arith; not_past = omega arith; same_length = refl; small = b.small; done = λ j h k. absurd (omega arith); rest = λ j h. refl }
+module _ (a k c : ℕ) (table : List ℕ) (fits : a + k ≤ length table) where
+  long : length (take a table) ≡ a
+  long = length-take-le a table (omega arith)
 
-  module _ {i : ℕ} {table' : List ℕ} (w : InClear m c i table table') where
-    pub clear_inside : i < cell_of (m + 1) 0 0 → i < length table'
-    clear_inside h = omega (arith, b.in_half, b.size, w.same_length)
+  filled_long : length (filled a k c table) ≡ length table
+  filled_long = omega (arith, length-append (take a table) (replicate k c ++ drop k (drop a table)), length-append (replicate k c) (drop k (drop a table)), length-replicate k c, length-drop k (drop a table), length-drop a table, long)
 
-    pub clear_next : i < cell_of (m + 1) 0 0 → InClear m c (i + 1) table (set table' i c)
-    clear_next h = record {
-      from_here = omega (arith, w.from_here);
-      not_past = omega arith;
-      same_length = length-set table' i c ∙ w.same_length;
-      small = λ j. little j (eqb j i) refl;
-      done = λ j k l. go j k l (eqb j i) refl;
-      rest = λ j k. other j (⊎_elim (λ l e. omega (arith, w.from_here)) (λ l e. omega arith) k) ∙ w.rest j (⊎_elim inl (λ l. inr (omega arith)) k);
-    }
-      where
-        other : (j : ℕ) → (j ≡ i → ⊥) → get_or (set table' i c) j 0 ≡ get_or table' j 0
-        other j f = get_or-set_other table' i j c 0 f
+  filled_before : (j : ℕ) → j < a → get_or (filled a k c table) j 0 ≡ get_or table j 0
+  filled_before j h = get_or-append (take a table) (replicate k c ++ drop k (drop a table)) 0 j (omega (arith, long)) ∙ get_or-take a table j 0 h
 
-        same : get_or (set table' i c) i 0 ≡ c
-        same = get_or-set_same table' i c 0 (clear_inside h)
+  filled_here : (j : ℕ) → a ≤ j → j < a + k → get_or (filled a k c table) j 0 ≡ c
+  filled_here j h l =
+      get_or-append_right (take a table) (replicate k c ++ drop k (drop a table)) a j 0 long h
+      ∙ get_or-append (replicate k c) (drop k (drop a table)) 0 (j - a) (omega (arith, length-replicate k c))
+      ∙ get_or-replicate k (j - a) c 0 (omega arith)
 
-        little : (j : ℕ) (o : Bool) → eqb j i ≡ o → get_or (set table' i c) j 0 ≤ never
-        little j true e = let f = eqb-true j i e in rw f (omega (arith, same))
-        little j false e = omega (arith, other j (eqb-false j i e), w.small j)
+  filled_after : (j : ℕ) → a + k ≤ j → get_or (filled a k c table) j 0 ≡ get_or table j 0
+  filled_after j h =
+      let e : a + (k + (j - a - k)) ≡ j = omega arith in
+      get_or-append_right (take a table) (replicate k c ++ drop k (drop a table)) a j 0 long (omega arith)
+      ∙ get_or-append_right (replicate k c) (drop k (drop a table)) k (j - a) 0 (length-replicate k c) (omega arith)
+      ∙ get_or-drop k (drop a table) (j - a - k) 0 ∙ get_or-drop a table (k + (j - a - k)) 0 ∙ ap (λ (i : ℕ). get_or table i 0) e
 
-        go : (j : ℕ) → cell_of m 0 0 ≤ j → j < i + 1 → (o : Bool) → eqb j i ≡ o → get_or (set table' i c) j 0 ≡ c
-        go j k l true e = let f = eqb-true j i e in rw f same
-        go j k l false e = let f : j ≡ i → ⊥ = eqb-false j i e in other j f ∙ w.done j k (let z : j < i = omega arith in z)
+pub filled_cleared : {m c a k : ℕ} {table part : List ℕ} → Ready m table → c ≤ never → a ≡ cell_of m 0 0 → k ≡ width * width → part ≡ replicate k c → Cleared m c table (put_mid a k table part)
+filled_cleared {m} {c} {a} {k} {table} {part} b small e f g = subst⁻¹ (λ (p : List ℕ). Cleared m c table (put_mid a k table p)) g (record {
+  others = record { same_length = filled_long a k c table fits; same = λ n x y d h l. away n x y d h l (le_or_lt n m) };
+  small = λ j. little j (le_or_lt a j) (le_or_lt (a + k) j);
+  clear = λ x y h l. filled_here a k c table fits (cell_of m x y) (omega arith) (omega arith);
+})
+  where
+    fits : a + k ≤ length table
+    fits = omega (arith, b.in_half, b.size)
 
-    pub clear_done : cell_of (m + 1) 0 0 ≤ i → Cleared m c table table'
-    clear_done h = record {
-      others = record { same_length = w.same_length; same = λ n x y f k l. w.rest (cell_of n x y) (away n x y f k l (le_or_lt n m)) };
-      small = w.small;
-      clear = λ x y k l. w.done (cell_of m x y) (omega arith) (omega arith);
-    }
-      where
-        away : (n x y : ℕ) → (n ≡ m → ⊥) → x ≤ top → y ≤ top → (n ≤ m) ⊎ (m < n) → (cell_of n x y < cell_of m 0 0) ⊎ (i ≤ cell_of n x y)
-        away n x y f k l (inl o) = let g : n < m = omega arith in inl (omega arith)
-        away n x y f k l (inr o) = let g = w.not_past in inr (omega arith)
+    away : (n x y : ℕ) → (n ≡ m → ⊥) → x ≤ top → y ≤ top → (n ≤ m) ⊎ (m < n) → get_or (filled a k c table) (cell_of n x y) 0 ≡ cell table n x y
+    away n x y d h l (inl o) = let q : n < m = omega arith in filled_before a k c table fits (cell_of n x y) (omega arith)
+    away n x y d h l (inr o) = filled_after a k c table fits (cell_of n x y) (omega arith)
+
+    little : (j : ℕ) → (a ≤ j) ⊎ (j < a) → (a + k ≤ j) ⊎ (j < a + k) → get_or (filled a k c table) j 0 ≤ never
+    little j (inr h) l = omega (arith, filled_before a k c table fits j h, b.small j)
+    little j (inl h) (inl l) = omega (arith, filled_after a k c table fits j l, b.small j)
+    little j (inl h) (inr l) = omega (arith, filled_here a k c table fits j h l)
 
 -- ---- All transitions
 
@@ -180,9 +172,6 @@ module _ {s cs : List ℕ} {k l : ℕ} {low high : List ℕ} (a : Laying s cs k 
 pub stretch_most : (s : List ℕ) {h n : ℕ} → WellFormed s → Stretch (locations s) h n → Stretch max_count h n
 stretch_most s loads a = record { in_half = a.in_half; in_count = let i = (header s loads).locations_fit in omega (arith, a.in_count) }
 
-pub writes_begun : {s : List ℕ} {c : ℕ} {cs : List ℕ} {h i places : ℕ} {table : List ℕ} → Small table → AllWritten s c cs h (Chosen i 0 places) table table
-writes_begun small = record { same_length = refl; small = small; at_once = λ m a. absurd (omega (arith, a.in_range)) }
-
 module _ {s : List ℕ} {c : ℕ} {cs : List ℕ} {h places m : ℕ} {table table' : List ℕ} (w : AllWritten s c cs h (Chosen h m places) table table') where
   pub writes_passed : (In (h + m) places → ⊥) → AllWritten s c cs h (Chosen h (m + 1) places) table table'
   writes_passed f = record { same_length = w.same_length; small = w.small; at_once = λ n a. w.at_once n (chosen_before f a) }
@@ -210,12 +199,6 @@ pub record InNote (s cs : List ℕ) (k l : ℕ) (first₀ second₀ first second
   pub noted : (y : ℕ) → y < z → (0 < get_or first (place_of k l y) 0) × (0 < get_or second (place_of k l y) 0)
   pub first_lasts : Lasts first₀ first
   pub second_lasts : Lasts second₀ second
-
-pub note_begun : {s cs : List ℕ} {k l : ℕ} {first second : List ℕ} → Ground s cs first second → InNote s cs k l first second first second 0
-note_begun g = record { z_fits = omega arith; ground = g; first_kept = refl; second_kept = refl; noted = λ y h. absurd (omega arith); first_lasts = λ i h. h; second_lasts = λ i h. h }
-
-pub note_done : {s cs : List ℕ} {k l : ℕ} {first₀ second₀ first second : List ℕ} {z : ℕ} → InNote s cs k l first₀ second₀ first second z → width ≤ z → Noting s cs k (λ (i : ℕ). i ≡ l) first₀ second₀ first second
-note_done {s} {cs} {k} {l} {first₀} {second₀} {first} {second} w h = record { first_kept = w.first_kept; second_kept = w.second_kept; ground = w.ground; noted = λ i e. subst⁻¹ (λ (j : ℕ). Noted k j first second) e (λ z o. w.noted z (omega arith)); first_lasts = w.first_lasts; second_lasts = w.second_lasts }
 
 -- An entry that is written is there, and the others are as before.
 entry_lasts : (memo : List ℕ) (i v j : ℕ) → i < length memo → 0 < get_or memo j 0 → 0 < get_or (set memo i (v + 1)) j 0

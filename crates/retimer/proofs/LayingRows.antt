@@ -14,7 +14,7 @@ use Rattle.enforcement.specs.Model.{top, width}
 use Rattle.retimer.specs.Costs.{never}
 use Rattle.retimer.specs.Row.{In}
 use Rattle.retimer.proofs.CostLaws.{le_or_lt}
-use Rattle.retimer.specs.Layers.{cell_of, cell, tick, Small, RowAsked, RowTicked, Ticked, Chosen, RowsTicked, AllTicked, RowLowered}
+use Rattle.retimer.specs.Layers.{cell_of, cell, tick, Small, RowTicked, Ticked, Chosen, RowsTicked}
 
 -- ---- By other costs
 
@@ -28,16 +28,7 @@ pub record InLower (other : ℕ → ℕ) (to x end i : ℕ) (table table' : List
   pub lesser : (j : ℕ) → get_or table' j 0 ≤ get_or table j 0
 
 module _ {other : ℕ → ℕ} {to x end : ℕ} {table : List ℕ} where
-  pub lower_begun : InLower other to x end x table table
-  lower_begun = record { from_x = omega arith; not_past = inr refl; same_length = refl; done = λ j h k. absurd (omega arith); rest = λ j h. refl; lesser = λ j. omega arith }
-
   module _ {i : ℕ} {table' : List ℕ} (w : InLower other to x end i table table') where
-    pub lower_done : end ≤ i → RowLowered other to x end table table'
-    lower_done h = record { same_length = w.same_length; lowered = λ j l m. w.done j l (omega arith); same = λ j. ⊎_elim (λ l. w.rest j (inl l)) (λ l. w.rest j (⊎_elim (λ e. inr (omega arith)) (λ e. far j l e) w.not_past)); lesser = w.lesser }
-      where
-        far : (j : ℕ) → to + end ≤ j → i ≡ x → (j < to + x) ⊎ (to + i ≤ j)
-        far j l e = ⊎_elim (λ g. inr (omega arith)) (λ g. inl (omega arith)) (le_or_lt (to + x) j)
-
     pub lower_next : {v : ℕ} → i < end → to + i < length table' → v ≡ other i → InLower other to x end (i + 1) table (set table' (to + i) (min v (get_or table' (to + i) 0)))
     lower_next {v} soon inside v_is = record { from_x = omega (arith, w.from_x); not_past = inl (omega arith); same_length = length-set table' (to + i) u ∙ w.same_length; done = λ j. go j (eqb j i) refl; rest = rest; lesser = λ j. less j (eqb j (to + i)) refl }
       where
@@ -75,20 +66,6 @@ module _ {other : ℕ → ℕ} {to x end : ℕ} {table : List ℕ} where
 abbrev pub after : List ℕ → ℕ → ℕ → ℕ
 after table here i = suc (get_or table (here + width + tick i) 0)
 
-pub row_at : {here above to later : ℕ} {table table' : List ℕ} → here ≡ to → above ≡ later → RowTicked here above table table' → RowTicked to later table table'
-row_at {here} {above} {to} {later} {table} {table'} e f r = subst (λ (n : ℕ). RowTicked to n table table') f (subst (λ (n : ℕ). RowTicked n above table table') e r)
-
-module _ {here : ℕ} {table : List ℕ} where
-  pub row_ticked : {table' : List ℕ} → RowLowered (after table here) here 0 width table table' → RowTicked here (here + width) table table'
-  row_ticked r = record { same_length = r.same_length; ticked = λ x h. omega (arith, r.lowered x (omega arith) (omega arith), r.same (here + width + tick x) (inr (omega arith))); same = λ i. ⊎_elim (λ l. r.same i (inl (omega arith))) (λ l. r.same i (inr l)) }
-
-  -- The row after it is as it was.
-  pub after_is : {i j : ℕ} {table' : List ℕ} → i ≤ top → j ≡ tick i → InLower (after table here) here 0 width i table table' → get_or table' (here + width + j) 0 + 1 ≡ after table here i
-  after_is {i} {j} {table'} h e w = ap (λ (k : ℕ). get_or table' (here + width + k) 0 + 1) e ∙ ap (λ (k : ℕ). k + 1) (w.rest (here + width + tick i) (inr (omega arith))) ∙ omega arith
-
-  pub after_small : {i : ℕ} {table' : List ℕ} → Small table → InLower (after table here) here 0 width i table table' → Small table'
-  after_small small w j = omega (arith, w.lesser j, small j)
-
 -- ---- The last row
 
 -- The columns from x on are done.
@@ -98,55 +75,6 @@ pub record InLast (here x : ℕ) (table table' : List ℕ) : Type 0 where
   pub small : Small table'
   pub done : (i : ℕ) → x ≤ i → i ≤ top → get_or table' (here + i) 0 ≡ min (get_or table (here + i) 0) (suc (get_or table' (here + tick i) 0))
   pub rest : (i : ℕ) → (i < here + x) ⊎ (here + width ≤ i) → get_or table' i 0 ≡ get_or table i 0
-
-module _ {here : ℕ} {table : List ℕ} (a : RowAsked here table) where
-  pub last_begun : InLast here top table table
-  last_begun = record { x_fits = omega arith; same_length = refl; small = a.small; done = λ i h k. let e : here + tick i ≡ here + i = omega arith in let f : get_or table (here + tick i) 0 ≡ get_or table (here + i) 0 = ap (λ (j : ℕ). get_or table j 0) e in omega arith; rest = λ i h. refl }
-
-  module _ {x : ℕ} {table' : List ℕ} (w : InLast here x table table') where
-    pub last_done : x ≤ 0 → RowTicked here here table table'
-    last_done h = record { same_length = w.same_length; ticked = λ i k. w.done i (omega arith) k; same = λ i k. w.rest i (⊎_elim (λ l. inl (omega arith)) inr k) }
-
-    pub last_inside : (j : ℕ) → j ≤ top → here + j < length table'
-    last_inside j h = omega (arith, a.inside, a.size, w.same_length)
-
-    pub last_next : {v : ℕ} → 0 < x → v ≡ get_or table' (here + x) 0 + 1 → InLast here (x - 1) table (set table' (here + (x - 1)) (min v (get_or table' (here + (x - 1)) 0)))
-    last_next {v} some v_is = record { x_fits = omega (arith, w.x_fits); same_length = length-set table' (here + (x - 1)) u ∙ w.same_length; small = λ i. little i (eqb i (here + (x - 1))) refl; done = λ i. go i (eqb i (x - 1)) refl; rest = rest }
-      where
-        u : ℕ
-        u = min v (get_or table' (here + (x - 1)) 0)
-
-        next : List ℕ
-        next = set table' (here + (x - 1)) u
-
-        other : (i : ℕ) → (i ≡ here + (x - 1) → ⊥) → get_or next i 0 ≡ get_or table' i 0
-        other i f = get_or-set_other table' (here + (x - 1)) i u 0 f
-
-        same : get_or next (here + (x - 1)) 0 ≡ u
-        same = get_or-set_same table' (here + (x - 1)) u 0 (last_inside (x - 1) (omega (arith, w.x_fits)))
-
-        rest : (i : ℕ) → (i < here + (x - 1)) ⊎ (here + width ≤ i) → get_or next i 0 ≡ get_or table i 0
-        rest i h = other i (⊎_elim (λ l e. omega arith) (λ l e. omega (arith, w.x_fits)) h) ∙ w.rest i (⊎_elim (λ l. inl (omega arith)) inr h)
-
-        little : (i : ℕ) (b : Bool) → eqb i (here + (x - 1)) ≡ b → get_or next i 0 ≤ never
-        little i true e = let f = eqb-true i (here + (x - 1)) e in rw f (omega (arith, same, w.small (here + (x - 1))))
-        little i false e = omega (arith, other i (eqb-false i (here + (x - 1)) e), w.small i)
-
-        old : get_or table' (here + (x - 1)) 0 ≡ get_or table (here + (x - 1)) 0
-        old = w.rest (here + (x - 1)) (inl (omega arith))
-
-        later : get_or next (here + tick (x - 1)) 0 ≡ get_or table' (here + x) 0
-        later = let f = w.x_fits in let e : here + tick (x - 1) ≡ here + x = omega arith in ap (λ (j : ℕ). get_or next j 0) e ∙ other (here + x) (λ q. omega arith)
-
-        go : (i : ℕ) (b : Bool) → eqb i (x - 1) ≡ b → x - 1 ≤ i → i ≤ top → get_or next (here + i) 0 ≡ min (get_or table (here + i) 0) (suc (get_or next (here + tick i) 0))
-        go i true e h k = let f = eqb-true i (x - 1) e in rw f (omega (arith, same, old, later))
-        go i false e h k =
-            let f : i ≡ x - 1 → ⊥ = eqb-false i (x - 1) e in
-            let l : x - 1 < i = omega arith in
-            let p = other (here + i) (λ q. omega arith) in
-            let q = other (here + tick i) (λ q. omega arith) in
-            let d = w.done i (omega arith) k in
-            omega arith
 
 -- ---- Chosen locations
 
@@ -229,13 +157,7 @@ pub record InTicks (P : ℕ → Type 0) (y : ℕ) (table table' : List ℕ) : Ty
   pub rest : (m x z : ℕ) → z < y → x ≤ top → z ≤ top → cell table' m x z ≡ cell table m x z
 
 module _ {P : ℕ → Type 0} {table : List ℕ} where
-  pub ticks_begun : Small table → InTicks P width table table
-  ticks_begun small = record { y_fits = omega arith; same_length = refl; small = small; done = λ m x z g h k l. absurd (omega arith); rest = λ m x z f h k. refl }
-
   module _ {y : ℕ} {table' : List ℕ} (w : InTicks P y table table') where
-    pub ticks_done : y ≤ 0 → AllTicked P table table'
-    ticks_done h = record { same_length = w.same_length; small = w.small; ticked = λ m x z g k l. w.done m x z g k (omega arith) l }
-
     pub ticks_next : {next : List ℕ} → 0 < y → RowsTicked P (y - 1) table' next → InTicks P (y - 1) table next
     ticks_next {next} some r = record {
       y_fits = let f = w.y_fits in omega arith;

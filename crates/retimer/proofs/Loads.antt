@@ -8,6 +8,7 @@ use Prim.Native.Nat.{ℕ, ◌-◌, ◌≤◌, min, max}
 use native.Mathlib.Omega.{arith}
 use lib.ListN.{length, take}
 use borrow.Author.Tests.{eq-eqb, ne_eqb}
+use Rattle.std.specs.Prelude.{Result, Ok, Err, is_err}
 use Rattle.enforcement.specs.Limits.{max_date, max_size}
 use Rattle.enforcement.specs.Automaton.{Bytes, automaton, clocks, initial}
 use Rattle.enforcement.specs.Loading.{Loads, WellFormed, check}
@@ -23,19 +24,18 @@ use Rattle.enforcement.proofs.Model as model-laws
 use Rattle.retimer.specs.declared.limits.Monitor.{Monitor}
 use Rattle.retimer.specs.declared.reason.Reason.{Reason}
 use Rattle.retimer.specs.declared.sheet.Counts.{Counts}
-use Rattle.retimer.specs.declared.sheet.Checked.{Checked}
-use Rattle.retimer.specs.declared.sheet.Checked.TheVariants.{Accepted, Refused}
 use Rattle.retimer.specs.Reasons.{reason_of}
 use Rattle.retimer.specs.Checked.{figures_of, checked_of}
 use Rattle.retimer.specs.Readings.{located, Standing}
 use Rattle.retimer.specs.Optimum.{LampAsked}
 use Rattle.retimer.specs.Live.{LiveTable}
 use Rattle.retimer.specs.View.{view, view_of}
-use Rattle.retimer.specs.Calls.{initial_state, FreshRight}
+use Rattle.retimer.specs.declared.monitor.Loaded.{Loaded}
+use Rattle.retimer.specs.Calls.{initial_state, FreshRight, LoadRight}
 
 -- ---- The check's answer
 
-pub accepted_loads : (s : Bytes) (d : ℕ) (v : Checked) (k : Counts) → v ≡ Accepted k → checked_of v ≡ check s d → Loads s d
+pub accepted_loads : (s : Bytes) (d : ℕ) (v : Result Counts Reason) (k : Counts) → v ≡ Ok k → checked_of v ≡ check s d → Loads s d
 accepted_loads s d v k e f = go (check_right s d).one_of
   where
     g : loading.accepted (figures_of k) ≡ check s d
@@ -45,11 +45,29 @@ accepted_loads s d v k e f = go (check_right s d).one_of
     go (inl a) = (check_right s d).accepts.0 a
     go (inr a) = let z : ◌≡◌ {A = ℕ} 0 1 = cc (g, a.1) in absurd (omega arith)
 
-pub refused_loads : (s : Bytes) (d : ℕ) (v : Checked) (r : Reason) → v ≡ Refused r → checked_of v ≡ check s d → Loads s d → ⊥
+pub refused_loads : (s : Bytes) (d : ℕ) (v : Result Counts Reason) (r : Reason) → v ≡ Err r → checked_of v ≡ check s d → Loads s d → ⊥
 refused_loads s d v r e f l =
     let a = loads_check s d l in
     let g : loading.refused (reason_of r) ≡ check s d = ap checked_of (sym e) ∙ f in
     let z : ◌≡◌ {A = ℕ} 0 1 = cc (g, a) in omega arith
+
+-- The same of a load, by the test whether it refused.
+pub refused_load : (s : Bytes) (d : ℕ) (r : Loaded) → is_err r.checked ≡ true → LoadRight s d r → Loads s d → ⊥
+refused_load s d r e f = go r.checked e f.checked
+  where
+    go : (v : Result Counts Reason) → is_err v ≡ true → checked_of v ≡ check s d → Loads s d → ⊥
+    go (Ok k) e f l = cc
+    go (Err q) e f l = refused_loads s d (Err q) q refl f l
+
+pub accepted_load : (s : Bytes) (d : ℕ) (r : Loaded) → is_err r.checked ≡ false → LoadRight s d r → Loads s d
+accepted_load s d r e f = go r.checked e f.checked
+  where
+    go : (v : Result Counts Reason) → is_err v ≡ false → checked_of v ≡ check s d → Loads s d
+    go (Ok k) e f = accepted_loads s d (Ok k) k refl f
+    go (Err q) e f = absurd (cc)
+
+pub accepted_box : (s : Bytes) (d : ℕ) (r : Loaded) → is_err r.checked ≡ false → LoadRight s d r → FreshRight s d r.monitor
+accepted_box s d r e f = f.fresh (accepted_load s d r e f)
 
 -- ---- A fresh box
 

@@ -1,14 +1,14 @@
 -- Laws of the loops: the waits of a transition, and the places of a location's transitions.
 -- Assumes nothing.
 use mathlib.Core.Path.{◌≡◌, refl, ap, sym, ◌∙◌, subst}
-use mathlib.Core.Bool.{Bool, true, false, not, false≢true}
+use mathlib.Core.Bool.{Bool, true, false, false≢true}
 use mathlib.Core.List.{List, [], ◌∷◌}
 use mathlib.Core.Logic.{inr, ◌↔◌}
 use Prim.Native.Nat.{ℕ, ◌+◌, ◌*◌, ◌≤◌, ◌<◌}
 use native.Mathlib.Omega.{arith}
-use lib.Dec.{ltb, eqb}
+use lib.Dec.{eqb}
 use lib.ListN.{get_or}
-use borrow.Author.Tests.{ltb-true, lt-ltb, eqb-true, eqb-false}
+use borrow.Author.Tests.{eqb-true, eqb-false}
 use Rattle.enforcement.specs.Automaton.{Bytes, Transition, accepting, actions, byte, word, transition_at}
 use Rattle.enforcement.specs.TimedWord.{Configuration, fire}
 use Rattle.enforcement.specs.Model.{prospect, compile}
@@ -27,23 +27,11 @@ use Rattle.retimer.proofs.Singles.{LiveIn, EndsFor, NextLives, single_ends, sing
 use Rattle.retimer.proofs.Played.{ends_is, lives_is, dead_is}
 use Rattle.retimer.proofs.Stuck.{lit_empty}
 
--- ---- Whether a transition is enabled after some wait
-
-module _ (s : Bytes) (c p : ℕ) (r : List ℕ) where
-  pub opens_other : (byte s p ≡ c → ⊥) → (false ≡ true) ↔ Opens c r (transition_at s p)
-  opens_other h = (λ e. absurd (false≢true e), λ w. absurd (h w.0))
-
-  pub opens_by : (a b : ℕ) → byte s p ≡ c → a ≡ first_wait (transition_at s p) (get_or r 0 0) (get_or r 1 0) → b ≡ end_wait (transition_at s p) (get_or r 0 0) (get_or r 1 0) → (ltb a b ≡ true) ↔ Opens c r (transition_at s p)
-  opens_by a b h e f = (λ k. (h, omega (arith, ltb-true a b k)), λ w. lt-ltb a b (omega (arith, w.1)))
-
 -- ---- The waits of a transition
 
 -- None of the waits below u leads to a live configuration.
 abbrev pub NoneLive : Bytes → List ℕ → Transition → ℕ → Type 0
 NoneLive s r t u = (w : ℕ) → first_wait t (get_or r 0 0) (get_or r 1 0) ≤ w → w < u → (compile s).live (fire t (along (get_or r 0 0) (get_or r 1 0) 0 w)) ≡ true → ⊥
-
-pub none_begun : (s : Bytes) (r : List ℕ) (t : Transition) (u : ℕ) → u ≡ first_wait t (get_or r 0 0) (get_or r 1 0) → NoneLive s r t u
-none_begun s r t u e w h k g = omega arith
 
 pub none_more : (s : Bytes) (r : List ℕ) (t : Transition) (u : ℕ) → NoneLive s r t u → (compile s).live (fire t (along (get_or r 0 0) (get_or r 1 0) 0 u)) ≡ false → NoneLive s r t (u + 1)
 none_more s r t u n f w h k g = go (eqb w u) refl
@@ -51,9 +39,6 @@ none_more s r t u n f w h k g = go (eqb w u) refl
     go : (b : Bool) → eqb w u ≡ b → ⊥
     go true e = false≢true (sym f ∙ subst (λ (i : ℕ). (compile s).live (fire t (along (get_or r 0 0) (get_or r 1 0) 0 i)) ≡ true) (eqb-true w u e) g)
     go false e = let z = eqb-false w u e in n w h (omega arith) g
-
-pub none_ended : (s : Bytes) (r : List ℕ) (t : Transition) (u e : ℕ) → e ≡ end_wait t (get_or r 0 0) (get_or r 1 0) → e ≤ u → NoneLive s r t u → (false ≡ true) ↔ LeadsLive s r t
-none_ended s r t u e q h n = (λ k. absurd (false≢true k), λ w. absurd (n w.wait w.opened (omega (arith, w.open_still)) w.good))
 
 pub found_live : (s : Bytes) (r : List ℕ) (t : Transition) (u e : ℕ) → e ≡ end_wait t (get_or r 0 0) (get_or r 1 0) → first_wait t (get_or r 0 0) (get_or r 1 0) ≤ u → u < e → (compile s).live (fire t (along (get_or r 0 0) (get_or r 1 0) 0 u)) ≡ true
     → (true ≡ true) ↔ LeadsLive s r t
@@ -132,19 +117,19 @@ nexting_begun s live l r w v n a d e f =
     }
 
 module _ {s : Bytes} {l : ℕ} {r : List ℕ} {p e : ℕ} (m : Nexting s l r p e) where
-  pub nexting_found : p < e → LeadsLive s r (transition_at s p) → not true ≡ none_next (compile s) (located l r) (actions s)
+  pub nexting_found : p < e → LeadsLive s r (transition_at s p) → false ≡ none_next (compile s) (located l r) (actions s)
   nexting_found h w = go (none_next (compile s) (located l r) (actions s)) refl
     where
-      go : (b : Bool) → none_next (compile s) (located l r) (actions s) ≡ b → not true ≡ none_next (compile s) (located l r) (actions s)
+      go : (b : Bool) → none_next (compile s) (located l r) (actions s) ≡ b → false ≡ none_next (compile s) (located l r) (actions s)
       go true q = absurd ((none_next_finds (compile s) (located l r) (actions s)).passes q (left_found m.left h w))
       go false q = sym q
 
   pub nexting_passed : p < e → (LeadsLive s r (transition_at s p) → ⊥) → Nexting s l r (p + 7) e
   nexting_passed h z = record { left = left_passed m.left h z }
 
-  pub nexting_none : e ≤ p → not false ≡ none_next (compile s) (located l r) (actions s)
+  pub nexting_none : e ≤ p → true ≡ none_next (compile s) (located l r) (actions s)
   nexting_none h = go (none_next (compile s) (located l r) (actions s)) refl
     where
-      go : (b : Bool) → none_next (compile s) (located l r) (actions s) ≡ b → not false ≡ none_next (compile s) (located l r) (actions s)
+      go : (b : Bool) → none_next (compile s) (located l r) (actions s) ≡ b → true ≡ none_next (compile s) (located l r) (actions s)
       go true q = sym q
       go false q = absurd ((left_none m.left h).0 ((none_next_finds (compile s) (located l r) (actions s)).fails q))

@@ -6,25 +6,16 @@ use mathlib.Core.List.{List}
 use Prim.Native.Nat.{ℕ, ◌+◌, ◌-◌, ◌≤◌, ◌<◌}
 use native.Mathlib.Omega.{arith}
 use lib.Dec.{eqb}
-use lib.ListN.{length, get_or, set, drop, replicate, length-set, length-replicate}
+use lib.ListN.{length, get_or, set, drop, length-set}
 use lib.Seq.{drop-length, get_or-set_same, get_or-set_other}
 use borrow.Author.Tests.{eqb-true, eqb-false}
 use Rattle.enforcement.specs.Limits.{max_count}
-use Rattle.enforcement.specs.Automaton.{Bytes, accepting}
+use Rattle.enforcement.specs.Automaton.{accepting}
 use Rattle.enforcement.specs.Model.{top}
 use Rattle.enforcement.proofs.Loading.{header}
 use Rattle.retimer.specs.Readings.{located, Standing}
-use Rattle.retimer.specs.Costs.{never, cost_at, configuration, just_reset, place_of, next_at, location_at, reading_at, places_for, Known, Ground, Costed, AfterAsked}
-use Rattle.retimer.specs.Chains.{Searching}
-use Rattle.retimer.proofs.Arrays.{zero_at}
+use Rattle.retimer.specs.Costs.{never, cost_at, just_reset, place_of, next_at, location_at, reading_at, Known, Ground, Costed, AfterAsked}
 use Rattle.retimer.proofs.CostLaws.{end_cost}
-
--- A memo of zeros knows nothing.
-pub known_none : (s : Bytes) (cs : List ℕ) (clock : Bool) (n : ℕ) → places_for (length cs) ≤ n → Known s cs clock (replicate n 0)
-known_none s cs clock n h = record { right = λ i g. absurd (none i g); places = rw length-replicate h }
-  where
-    none : (i : ℕ) → 0 < get_or (replicate n 0) i 0 → ⊥
-    none i g = omega (arith, zero_at n i)
 
 module _ {s cs : List ℕ} {k l z : ℕ} {first second : List ℕ} (a : AfterAsked s cs k l z first second) where
   in_count : l < max_count
@@ -59,26 +50,19 @@ module _ {s cs : List ℕ} {k l z : ℕ} {first second : List ℕ} (a : AfterAsk
   known_cost {clock} {b} {i} {memo} e n g o = subst⁻¹ (λ (t : Bool). Costed s cs first second (cost_at s (drop k cs) (just_reset t l z)) (get_or memo i 0 - 1)) e (record { value_is = omega (arith, n.right i o, placed b i g); ground = a.ground })
 
   -- What was worked out is the cost, and is noted.
-  pub noted_first : {clock : Bool} {i v : ℕ} {first' second' : List ℕ} → clock ≡ false → i ≡ place_of k l z → Costed s cs first' second' (cost_at s (drop k cs) (configuration l 0 z)) v
+  pub noted_first : {clock : Bool} {i v : ℕ} {first' second' : List ℕ} → clock ≡ false → i ≡ place_of k l z → Costed s cs first' second' (cost_at s (drop k cs) (just_reset clock l z)) v
       → Costed s cs (set first' i (v + 1)) second' (cost_at s (drop k cs) (just_reset clock l z)) v
   noted_first {clock} {i} {v} {first'} {second'} e g w =
       let d = w.ground in
-      subst⁻¹ (λ (t : Bool). Costed s cs (set first' i (v + 1)) second' (cost_at s (drop k cs) (just_reset t l z)) v) e
-      (record { value_is = w.value_is; ground = record { loads = d.loads; few = d.few; after_first = known_set false i v first' d.after_first g w.value_is; after_second = d.after_second } })
+      let is = rw e at w.value_is in
+      record { value_is = w.value_is; ground = record { loads = d.loads; few = d.few; after_first = known_set false i v first' d.after_first g is; after_second = d.after_second } }
 
-  pub noted_second : {clock : Bool} {i v : ℕ} {first' second' : List ℕ} → clock ≡ true → i ≡ place_of k l z → Costed s cs first' second' (cost_at s (drop k cs) (configuration l z 0)) v
+  pub noted_second : {clock : Bool} {i v : ℕ} {first' second' : List ℕ} → clock ≡ true → i ≡ place_of k l z → Costed s cs first' second' (cost_at s (drop k cs) (just_reset clock l z)) v
       → Costed s cs first' (set second' i (v + 1)) (cost_at s (drop k cs) (just_reset clock l z)) v
   noted_second {clock} {i} {v} {first'} {second'} e g w =
       let d = w.ground in
-      subst⁻¹ (λ (t : Bool). Costed s cs first' (set second' i (v + 1)) (cost_at s (drop k cs) (just_reset t l z)) v) e
-      (record { value_is = w.value_is; ground = record { loads = d.loads; few = d.few; after_first = d.after_first; after_second = known_set true i v second' d.after_second g w.value_is } })
-
-  -- The search from there.
-  pub searching_first : Searching s cs k 0 z first second
-  searching_first = record { ground = a.ground; more = a.more; first_fits = omega arith; second_fits = a.reading_fits }
-
-  pub searching_second : Searching s cs k z 0 first second
-  searching_second = record { ground = a.ground; more = a.more; first_fits = a.reading_fits; second_fits = omega arith }
+      let is = rw e at w.value_is in
+      record { value_is = w.value_is; ground = record { loads = d.loads; few = d.few; after_first = d.after_first; after_second = known_set true i v second' d.after_second g is } }
 
 -- ---- From a configuration as the code has it
 
@@ -86,17 +70,3 @@ module _ {s cs : List ℕ} {k l : ℕ} {r first second : List ℕ} (d : Ground s
   -- All is played.
   pub cost_ended : {v : ℕ} → k ≡ length cs → v ≡ cond (accepting s l) 0 never → Costed s cs first second (cost_at s (drop k cs) (located l r)) v
   cost_ended {v} e h = record { value_is = h ∙ sym (ap (λ (ds : List ℕ). cost_at s ds (located l r)) (ap (λ (j : ℕ). drop j cs) e ∙ drop-length cs) ∙ end_cost s (located l r)); ground = d }
-
-  pub searching_here : (k ≡ length cs → ⊥) → Searching s cs k (get_or r 0 0) (get_or r 1 0) first second
-  searching_here e = record { ground = d; more = omega arith; first_fits = stands.readings.first; second_fits = stands.readings.second }
-
-  pub after_here : {z : ℕ} → (k ≡ length cs → ⊥) → (k ≡ 0 → ⊥) → z ≤ top → AfterAsked s cs k l z first second
-  after_here e f h = record { ground = d; some_played = omega arith; more = omega arith; in_sheet = stands.in_sheet; reading_fits = h }
-
--- A configuration with a reading that is 0.
-module _ {s cs first second : List ℕ} (k l : ℕ) (r : List ℕ) {v : ℕ} where
-  pub first_zero : get_or r 0 0 ≡ 0 → Costed s cs first second (cost_at s (drop k cs) (just_reset false l (get_or r 1 0))) v → Costed s cs first second (cost_at s (drop k cs) (located l r)) v
-  first_zero e = subst⁻¹ (λ (n : ℕ). Costed s cs first second (cost_at s (drop k cs) (configuration l n (get_or r 1 0))) v) e
-
-  pub second_zero : get_or r 1 0 ≡ 0 → Costed s cs first second (cost_at s (drop k cs) (just_reset true l (get_or r 0 0))) v → Costed s cs first second (cost_at s (drop k cs) (located l r)) v
-  second_zero e = subst⁻¹ (λ (n : ℕ). Costed s cs first second (cost_at s (drop k cs) (configuration l (get_or r 0 0) n)) v) e

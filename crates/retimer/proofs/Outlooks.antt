@@ -1,7 +1,7 @@
 -- What a list of actions comes to from a set of configurations.
 -- Assumes nothing.
 use mathlib.Core.Path.{◌≡◌, refl, ap, sym, ◌∙◌, subst, subst⁻¹}
-use mathlib.Core.Bool.{Bool, true, false, not, false≢true, true≢false}
+use mathlib.Core.Bool.{Bool, true, true≢false}
 use mathlib.Core.List.{List, [], ◌∷◌}
 use mathlib.Core.Logic.{◌↔◌}
 use Prim.Native.Nat.{ℕ, suc, ◌+◌, ◌-◌, ◌^◌, ◌≤◌, ◌<◌}
@@ -16,7 +16,7 @@ use Rattle.enforcement.specs.Automaton.{Bytes, word, accepting, clocks}
 use Rattle.enforcement.specs.Loading.{WellFormed}
 use Rattle.enforcement.specs.TimedWord.{Configuration}
 use Rattle.enforcement.specs.Model.{top, Prospect, ticks, extensible, dead, prospect, compile}
-use Rattle.enforcement.specs.Monitor.{is_dead, is_lit}
+use Rattle.enforcement.specs.Monitor.{is_lit}
 use Rattle.enforcement.proofs.Bits.{none_in, in_and, some_in}
 use Rattle.retimer.specs.declared.outlook.Outlook.{Outlook}
 use Rattle.retimer.specs.declared.outlook.Outlook.TheVariants.{Correct, Extensible, Dead}
@@ -58,11 +58,6 @@ live_met {s} {live} {set} t r = (λ w. (w.0, w.1, sym (same w.0 w.1) ∙ w.2), �
     same q m =
         let k = contains_readings r.whole m in
         t.right q.location (q.x ∷ q.y ∷ []) (record { in_sheet = reached_known r m; readings = record { two = refl; first = k.0; second = k.1 }; one_clock = saturated q m })
-
--- The lamp is dark just when there is a live member.
-pub dark_by : (b : Bool) {F : Type 0} → (b ≡ true) ↔ F → (not b ≡ false) ↔ F
-dark_by true h = (λ _. h.0 refl, λ _. refl)
-dark_by false h = (λ e. absurd (true≢false e), λ w. absurd (false≢true (h.1 w)))
 
 -- ---- One action after another
 
@@ -131,12 +126,6 @@ module _ (s : Bytes) (cs set nxt : List ℕ) (k c places found : ℕ) (less : k 
         none : {ds : List ℕ} → Some Lives s ds nxt → ⊥
         none w = none_in w.member.location (in_same w.member.location z ((p.reached.members w.member.location).1 (w.member, refl, w.contained)))
 
--- A list of one action.
-pub one_action : (cs : List ℕ) → length cs ≡ 1 → cs ≡ get_or cs 0 0 ∷ []
-one_action [] h = absurd (omega arith)
-one_action (c ∷ []) h = refl
-one_action (c ∷ d ∷ cs) h = absurd (omega arith)
-
 -- ---- The answer
 
 module _ (s : Bytes) (cs : List ℕ) (q : Configuration) (set : List ℕ) (places : ℕ) (u : Single s q set places) where
@@ -150,21 +139,6 @@ module _ (s : Bytes) (cs : List ℕ) (q : Configuration) (set : List ℕ) (place
   answer_is l Correct h = ends_is (prospect (compile s) cs q) (is_lit (compile s) q (front_of cs)) ((some_single Ends cs).0 h)
   answer_is l Extensible h = lives_is (prospect (compile s) cs q) (is_lit (compile s) q (front_of cs)) (λ k. h.0 ((some_single Ends cs).1 k)) ((some_single Lives cs).0 h.1)
   answer_is l (Dead x) h = dead_is (prospect (compile s) cs q) (λ k. h.0 ((some_single Lives cs).1 k)) (lit_some (compile s) q (front_of cs) x (λ e. omega (arith, length-take-le (length cs - 1) cs (omega arith))) (dark_is (prospect (compile s) (front_of cs) q) x (λ e. (some_single Lives (front_of cs)).0 (h.1.0 e), λ k. h.1.1 ((some_single Lives (front_of cs)).1 k))))
-
--- ---- Dead or not
-
-abbrev pub dead_of : Outlook → Bool
-dead_of Correct = false
-dead_of Extensible = false
-dead_of (Dead x) = true
-
-same_dead : (a : Prospect) (x : Bool) → dead_of (outlook_of a x) ≡ is_dead a
-same_dead (ticks n) x = refl
-same_dead extensible x = refl
-same_dead dead x = refl
-
-pub dead_answer : (a : Prospect) (x : Bool) {o v : Outlook} → o ≡ v → o ≡ outlook_of a x → dead_of v ≡ is_dead a
-dead_answer a x e f = ap dead_of (sym e ∙ f) ∙ same_dead a x
 
 -- ---- The prospect that an answer stands for
 

@@ -46,9 +46,6 @@ weight n k = (n - k) * (2 * width)
 abbrev pub rank : ℕ → ℕ → List ℕ → ℕ
 rank n k r = suc (weight n k + below r)
 
-pub rank_play : (n k : ℕ) (r : List ℕ) → k < n → rank n (k + 1) r < weight n k
-rank_play n k r h = omega arith
-
 pub rank_wait : (n k : ℕ) (r v : List ℕ) → Readings r → v ≡ waited 1 r → (get_or r 0 0 + get_or r 1 0 ≡ 2 * top → ⊥) → rank n k v < rank n k r
 unfolding waited
 rank_wait n k r v h e f = go (ap (λ (w : List ℕ). get_or w 0 0) e) (ap (λ (w : List ℕ). get_or w 1 0) e)

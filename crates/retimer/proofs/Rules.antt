@@ -21,7 +21,7 @@ use Rattle.retimer.specs.Costs.{never, cost_at, EndsBy}
 use Rattle.retimer.specs.Chains.{Covers, Chain, Searching, Arrived, kept_at, worth, OverAsked, OverDone, Rule, Gained}
 use Rattle.retimer.proofs.Intervals.{end_is}
 use Rattle.retimer.proofs.CostLaws.{end_cost, cost_waits}
-use Rattle.retimer.proofs.Chains.{leads_none, leads_first, fired_on, leads_reset, covers_same, covers_best, covers_arrived}
+use Rattle.retimer.proofs.Chains.{leads_first, fired_on, leads_reset, covers_best, covers_arrived}
 
 -- The readings worth a look are readings.
 worth_fits : (set z n : ℕ) → z ≤ top → z + worth set z n ≤ width
@@ -36,24 +36,9 @@ module _ {s cs : List ℕ} {k x y : ℕ} {first second : List ℕ} (a : Searchin
   abbrev after : List ℕ
   after = drop (k + 1) cs
 
-  unchanged : ((w : ℕ) → w < never → Rule s cs k x y e w t → Covers s after x y here places best w) → Gained s cs k x y (λ w. Rule s cs k x y e w t) here places best here places best first second
-  unchanged f = record { ground = a.ground; chain = ch; at_last = λ h. refl; gains = λ w h. covers_same s after x y here places w best (f w h) }
-
-  -- It is for another action.
-  pub rule_other : (t.action ≡ get_or cs k 0 → ⊥) → Gained s cs k x y (λ w. Rule s cs k x y e w t) here places best here places best first second
-  rule_other f = unchanged (λ w h q. absurd (f q.0))
-
   module _ {first-wait from end : ℕ} (first_is : first-wait ≡ first_wait t x y) (max-is : from ≡ max e first-wait) (end-at : end ≡ end_wait t x y) where
     from_is : from ≡ max e (first_wait t x y)
     from_is = max-is ∙ ap (max e) first_is
-
-    -- It is not enabled from e on.
-    pub rule_none : end ≤ from → Gained s cs k x y (λ w. Rule s cs k x y e w t) here places best here places best first second
-    rule_none h = unchanged (λ w l q. absurd (leads_none (EndsBy s after w) t x y e from from_is (omega arith) q.1))
-
-    -- It is enabled too late.
-    pub rule_late : best ≤ from → Gained s cs k x y (λ w. Rule s cs k x y e w t) here places best here places best first second
-    rule_late h = unchanged (λ w l q. let v = q.1 in inl (omega (arith, from_is, v.reached, v.opened, v.good)))
 
     module _ (for-action : t.action ≡ get_or cs k 0) (opens : from < end) (fits : Fits s t) where
       open_at : from < end_wait t x y

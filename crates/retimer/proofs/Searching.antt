@@ -19,7 +19,7 @@ use Rattle.enforcement.proofs.Loading.{header}
 use Rattle.enforcement.proofs.Bits.{bit_none, bit_beyond, or_cases, lowest_is, dropped_is}
 use Rattle.retimer.specs.Locations.{Added}
 use Rattle.retimer.specs.Waits.{along}
-use Rattle.retimer.specs.Costs.{never, cost_at, EndsBy, configuration, just_reset, Ground, Costed, AfterAsked}
+use Rattle.retimer.specs.Costs.{never, cost_at, EndsBy, configuration, just_reset, Ground, Costed}
 use Rattle.retimer.specs.Chains.{Member, Covers, Chain, Searching, Below, OverAsked, OverDone, Rule, Rules, Gained, Played}
 use Rattle.retimer.proofs.Arrays.{zero_at}
 use Rattle.retimer.proofs.Prospects.{left_some}
@@ -41,19 +41,7 @@ pub record InOver (s cs : List ℕ) (k t : ℕ) (clock : Bool) (z n from best : 
   pub second_kept : length second ≡ length second₀
 
 module _ {s cs : List ℕ} {k t z n from : ℕ} {first₀ second₀ : List ℕ} (a : OverAsked s cs k t z n from first₀ second₀) {best : ℕ} where
-  pub over_begun : {clock : Bool} → InOver s cs k t clock z n from best first₀ second₀ first₀ second₀ best 0
-  over_begun = record {
-    upto = omega arith;
-    done = record { ground = a.ground; most = omega arith; least = λ w h. (inl, ⊎_elim (λ l. l) (λ b. absurd (omega (arith, b.below)))) };
-    first_kept = refl;
-    second_kept = refl;
-  }
-
   module _ {clock : Bool} {first second : List ℕ} {v i : ℕ} (h : InOver s cs k t clock z n from best first₀ second₀ first second v i) where
-    -- The next reading is asked for.
-    pub over_asks : i < n → AfterAsked s cs (k + 1) t (z + i) first second
-    over_asks l = record { ground = h.done.ground; some_played = omega arith; more = a.more; in_sheet = a.target_fits; reading_fits = omega (arith, a.readings_fit) }
-
     -- Later positions than the least so far end no sooner.
     pub over_cut : v ≤ from + i → OverDone s cs k t clock z n from best v first second
     over_cut l = record {
@@ -91,9 +79,6 @@ module _ {s cs : List ℕ} {k t z n from : ℕ} {first₀ second₀ : List ℕ} 
             go : (o : Bool) → eqb b.index i ≡ o → v' ≤ w
             go true o = let r : Ends w i = subst (Ends w) (eqb-true b.index i o) b.holds in omega (arith, d.value_is)
             go false o = omega (arith, (h.done.least w q).1 (inr (record { index = b.index; below = omega (arith, b.below, eqb-false b.index i o); holds = b.holds })))
-
-    pub over_done : n ≤ i → OverDone s cs k t clock z n from best v first second
-    over_done l = let e : i ≡ n = omega (arith, h.upto) in subst (λ (j : ℕ). OverDone s cs k t clock z j from best v first second) e h.done
 
 -- ---- Over a location's transitions
 
@@ -299,9 +284,6 @@ module _ {s cs : List ℕ} {k x y : ℕ} {first₀ second₀ : List ℕ} (a : Se
           omega arith
 
   module _ {l : ℕ} {first second here : List ℕ} {places best i : ℕ} (h : InChain s cs k l x y first₀ second₀ first second here places best i) where
-    pub chain_searching : (places ≡ 0 → ⊥) → Searching s cs i x y first second
-    chain_searching q = record { ground = h.ground; more = h.more q; first_fits = a.first_fits; second_fits = a.second_fits }
-
     pub chain_next : {next first' second' : List ℕ} {places' best' : ℕ} → (places ≡ 0 → ⊥) → Played s cs i x y here places best next places' best' first' second' → length first' ≡ length first → length second' ≡ length second
         → InChain s cs k l x y first₀ second₀ first' second' next places' best' (i + 1)
     chain_next q d m n =

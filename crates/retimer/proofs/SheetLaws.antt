@@ -1,25 +1,22 @@
 -- Laws of the load check, over plain numbers and lists.
 -- Assumes nothing.
 use mathlib.Core.Path.{◌≡◌, refl, ap, ap₂, sym, ◌∙◌}
-use mathlib.Core.Bool.{Bool, true, false, ◌&&◌, ◌||◌, not}
+use mathlib.Core.Bool.{Bool, true, false, ◌&&◌, not}
 use mathlib.Core.List.{List, [], ◌∷◌, ◌++◌}
 use Prim.Native.Nat.{ℕ, zero, suc, ◌+◌, ◌-◌, ◌*◌, ◌/◌, ◌%◌, ◌^◌, ◌≤◌, ◌<◌}
 use native.Mathlib.Omega.{arith}
 use native.Mathlib.Nat.{mod-eq_of_lt, add-zero, zero-add, one-mul}
 use native.Mathlib.Numerals.{add-one, sub-one}
-use lib.Dec.{leb, ltb, eqb}
+use lib.Dec.{leb, eqb}
 use lib.ListN.{length, length-append}
-use lib.Count.{ones}
 use lib.Pow.{pow-lt}
-use borrow.Author.Tests.{eq-eqb, ne_eqb, le-leb, lt-leb}
-use Rattle.enforcement.specs.Limits.{max_count, max_bound, max_transitions, max_size}
-use Rattle.enforcement.specs.Automaton.{Bytes, word, locations, clocks, actions, offset, size, Transition, transition_at, transitions_from, transitions, transitions_over, all_transitions}
-use Rattle.enforcement.specs.Reason.{Reason}
-use Rattle.enforcement.specs.Loading.{Layout, end_before, refused, size_passes, header_passes, layout_passes, pairs_pass, bounds_pass, fits, all_fit_up_to, all_fit, overlap, overlaps_none, disjoint, disjoint_over, unless, counts_of}
-use Rattle.enforcement.specs.Loading as loading
+use borrow.Author.Tests.{eq-eqb, ne_eqb}
+use Rattle.enforcement.specs.Limits.{max_count, max_transitions, max_size}
+use Rattle.enforcement.specs.Automaton.{Bytes, locations, clocks, actions, offset, size, Transition, transition_at, transitions_from, transitions, transitions_over, all_transitions}
+use Rattle.enforcement.specs.Loading.{Layout, end_before, size_passes, header_passes, layout_passes, pairs_pass, fits, all_fit_up_to, all_fit, overlap, overlaps_none, disjoint, disjoint_over}
 use Rattle.enforcement.proofs.Tests.{Tests, leb_tests, both_tests}
 use Rattle.enforcement.proofs.Pairs.{layout_tests, transitions_known, transitions_length}
-use Rattle.retimer.specs.Checked.{Headed, LaidOut, figures_of}
+use Rattle.retimer.specs.Checked.{Headed, LaidOut}
 
 -- ---- Tests in a row
 
@@ -43,20 +40,6 @@ found e h = rw (sym e ∙ h)
 
 pub missed : {r a : Bool} → r ≡ a → r ≡ false → not a ≡ true
 missed e h = rw (sym e ∙ h)
-
--- A test that is asked for only where another passes.
-pub spared : {a : Bool} (b : Bool) → a ≡ false → true ≡ not a || b
-spared b e = rw e
-
-pub asked : {a b r : Bool} → a ≡ true → r ≡ b → r ≡ not a || b
-asked e h = rw e h
-
--- The same of the reasons in order.
-pub refuses : {b : Bool} (r : Reason) (k : loading.Checked) → b ≡ false → refused r ≡ unless b r k
-refuses r k e = rw e
-
-pub goes_on : {b : Bool} (r : Reason) {a k : loading.Checked} → b ≡ true → a ≡ k → a ≡ unless b r k
-goes_on r e h = rw e h
 
 -- ---- What the tests give
 
@@ -87,29 +70,11 @@ unfolding layout_passes
 layout_passed s h e = record { headed = h; layout = ((both_tests (leb_tests (6 + 4 * locations s) (length s)) (both_tests (layout_tests s) (leb_tests (length (all_transitions s)) max_transitions))).passes e).1.0 }
 
 -- The power of two that a shift gives.
-shifted : (n : ℕ) → n ≤ max_count → 1 * 2 ^ n % 2 ^ 64 ≡ 2 ^ n
+pub shifted : (n : ℕ) → n ≤ max_count → 1 * 2 ^ n % 2 ^ 64 ≡ 2 ^ n
 shifted n h = rw (one-mul, mod-eq_of_lt (pow-lt (lt64 n h)))
   where
     lt64 : (m : ℕ) → m ≤ max_count → m < 64
     lt64 m k = omega arith
-
-pub shift_test : (w x n m : ℕ) → w ≡ x → n ≡ m → m ≤ max_count → ltb w (1 * 2 ^ n % 2 ^ 64) ≡ ltb x (2 ^ m)
-shift_test w x n m e f h = rw (e, f, shifted m h)
-
--- ---- Bounds of one clock
-
-module _ (low high : ℕ) where
-  pub bounds_low : max_bound < low → false ≡ bounds_pass low high
-  bounds_low h = stops _ (lt-leb low max_bound h)
-
-  pub bounds_none : low ≤ max_bound → high ≡ 255 → true ≡ bounds_pass low high
-  bounds_none h e = goes (le-leb low max_bound h) (rw (e, le-leb low 255 (omega arith)))
-
-  pub bounds_high : low ≤ max_bound → (high ≡ 255 → ⊥) → max_bound < high → false ≡ bounds_pass low high
-  bounds_high h e k = goes (le-leb low max_bound h) (rw (lt-leb high max_bound k, ne_eqb high 255 e))
-
-  pub bounds_last : low ≤ max_bound → high ≤ max_bound → leb low high ≡ bounds_pass low high
-  bounds_last h k = goes (le-leb low max_bound h) (rw (le-leb high max_bound k))
 
 -- ---- Transitions that lie back to back
 
@@ -158,18 +123,35 @@ pub disjoint_each : Each disjoint overlaps_none
 unfolding disjoint
 disjoint_each = record { none = refl; more = λ t ts. refl }
 
-module _ {f : List Transition → Bool} {g : Transition → List Transition → Bool} (e : Each f g) (s : Bytes) (n p : ℕ) where
-  pub each_none : n ≡ 0 → true ≡ f (transitions_from s n p)
-  each_none z = rw z (sym e.none)
+-- The transitions from the k-th of n on.
+abbrev pub rest_from : Bytes → ℕ → ℕ → ℕ → List Transition
+rest_from s n first k = transitions_from s (n - k) (first + 7 * k)
 
-  each_step : 0 < n → f (transitions_from s n p) ≡ g (transition_at s p) (transitions_from s (n - 1) (p + 7)) && f (transitions_from s (n - 1) (p + 7))
-  each_step h = ap f (from_step s n p h) ∙ e.more _ _
+rest_step : (s : Bytes) (n first k : ℕ) → k < n → rest_from s n first k ≡ transition_at s (first + 7 * k) ∷ rest_from s n first (k + 1)
+rest_step s n first k h =
+    let e : n - k - 1 ≡ n - (k + 1) = omega arith in
+    let p : first + 7 * k + 7 ≡ first + 7 * (k + 1) = omega arith in
+    from_step s (n - k) (first + 7 * k) (omega arith) ∙ ap₂ (λ (m q : ℕ). transition_at s (first + 7 * k) ∷ transitions_from s m q) e p
 
-  pub each_stops : 0 < n → g (transition_at s p) (transitions_from s (n - 1) (p + 7)) ≡ false → false ≡ f (transitions_from s n p)
-  each_stops h k = stops _ k ∙ sym (each_step h)
+-- The transitions after the k-th, by its own place.
+pub after_step : (s : Bytes) (n first k : ℕ) → overlaps_none (transition_at s (first + 7 * k)) (rest_from s n first (k + 1)) ≡ overlaps_none (transition_at s (first + 7 * k)) (transitions_from s (n - (k + 1)) (first + 7 * k + 7))
+after_step s n first k = let e : first + 7 * (k + 1) ≡ first + 7 * k + 7 = omega arith in rw e
 
-  pub each_goes : 0 < n → g (transition_at s p) (transitions_from s (n - 1) (p + 7)) ≡ true → f (transitions_from s (n - 1) (p + 7)) ≡ f (transitions_from s n p)
-  each_goes h k = goes k refl ∙ sym (each_step h)
+module _ {f : List Transition → Bool} {g : Transition → List Transition → Bool} (e : Each f g) (s : Bytes) (n first k : ℕ) where
+  pub each_all : f (rest_from s n first 0) ≡ f (transitions_from s n first)
+  each_all = let y : n - 0 ≡ n = omega arith in let z : first + 7 * 0 ≡ first = omega arith in rw (y, z)
+
+  pub each_none : n ≤ k → true ≡ f (rest_from s n first k)
+  each_none h = let z : n - k ≡ 0 = omega arith in rw z (sym e.none)
+
+  each_step : k < n → f (rest_from s n first k) ≡ g (transition_at s (first + 7 * k)) (rest_from s n first (k + 1)) && f (rest_from s n first (k + 1))
+  each_step h = ap f (rest_step s n first k h) ∙ e.more _ _
+
+  pub each_stops : k < n → g (transition_at s (first + 7 * k)) (rest_from s n first (k + 1)) ≡ false → false ≡ f (rest_from s n first k)
+  each_stops h z = stops _ z ∙ sym (each_step h)
+
+  pub each_goes : k < n → g (transition_at s (first + 7 * k)) (rest_from s n first (k + 1)) ≡ true → f (rest_from s n first (k + 1)) ≡ f (rest_from s n first k)
+  each_goes h z = goes z refl ∙ sym (each_step h)
 
 -- ---- Locations in a row
 
@@ -213,8 +195,3 @@ pairs_end s m l e h = let z : m - l ≡ 0 = omega arith in rw z
 -- The transitions of a location, by the numbers of its pair.
 pub disjoint_known : (s : Bytes) (l p z : ℕ) → l < locations s → p ≡ offset s l → z ≡ size s l → disjoint (transitions s l) ≡ disjoint (transitions_from s (z / 7) p)
 disjoint_known s l p z h e f = rw (e, f) (ap disjoint (transitions_known s l h))
-
--- ---- The figures
-
-pub figures_are : (s : Bytes) (n w : ℕ) → n ≡ length (all_transitions s) → w ≡ word s 4 → figures_of (record { locations = locations s; clocks = clocks s; actions = actions s; transitions = n; accepting = ones w }) ≡ counts_of s
-figures_are s n w e f = rw (e, f)

@@ -14,7 +14,7 @@ use Rattle.enforcement.specs.TimedWord.{Configuration, fire, fire_first, step}
 use Rattle.enforcement.proofs.Pairs.{transitions_known, layout_after, layout_inside}
 use Rattle.enforcement.proofs.Loading.{layout, bounded}
 use Rattle.retimer.specs.Readings.{reset_by, located, Standing}
-use Rattle.retimer.specs.Steps.{applies, Taken, Placed, StepRight}
+use Rattle.retimer.specs.Steps.{applies, Taken, StepRight}
 use Rattle.retimer.proofs.Valuations.{located_reset, standing_fired}
 
 -- ---- The test of one transition
@@ -95,21 +95,11 @@ module _ {s : Bytes} {c : ℕ} {q : Configuration} {p e : ℕ} (m : Remaining s 
   unfolding fire_first
   exhausted h = let n : (e - p) / 7 ≡ 0 = omega arith in sym m.rest ∙ rw n refl
 
--- What the search for a place shows of its answer.
-pub placed_at : (s : Bytes) (c l : ℕ) (r : List ℕ) (p e : ℕ) → Remaining s c (located l r) p e → p < e → applies s p c (located l r).x (located l r).y ≡ true → Placed s c l r p
-placed_at s c l r p e m h a =
-    record {
-      nowhere = λ z. absurd (omega (arith, m.after));
-      somewhere = λ z. record { inside = omega (arith, m.whole, m.inside); fits = (fits_here m h).0; is = taken m h a };
-    }
-
-pub placed_none : (s : Bytes) (c l : ℕ) (r : List ℕ) (p e : ℕ) → Remaining s c (located l r) p e → e ≤ p → Placed s c l r 0
-placed_none s c l r p e m h = record { nowhere = λ z. exhausted m h; somewhere = λ z. absurd (z refl) }
+-- The one at p is the one to take.
+pub taken_here : {s : Bytes} {c l : ℕ} {r : List ℕ} {p e : ℕ} → Remaining s c (located l r) p e → p < e → applies s p c (located l r).x (located l r).y ≡ true → Taken s c l r p
+taken_here m h a = record { inside = omega (arith, m.whole, m.inside); fits = (fits_here m h).0; is = taken m h a }
 
 -- ---- The step
-
-pub stepped_none : (s : Bytes) (c l : ℕ) (r : List ℕ) (p : ℕ) → Standing s l r → Placed s c l r p → p ≡ 0 → StepRight s c l r (record { found = false; location = l; readings = r })
-stepped_none s c l r p k h e = record { is = sym (h.nowhere e); stays = λ z. (refl, refl); standing = k }
 
 pub stepped_some : (s : Bytes) (c l : ℕ) (r : List ℕ) (p : ℕ) (v : List ℕ) → Standing s l r → Taken s c l r p → v ≡ reset_by (byte s (p + 2)) r → StepRight s c l r (record { found = true; location = byte s (p + 1); readings = v })
 stepped_some s c l r p v k h e =

@@ -2,11 +2,10 @@
 -- Assumes nothing.
 use mathlib.Core.Path.{◌≡◌, sym, ap, ◌∙◌, subst}
 use mathlib.Core.List.{List, [], ◌++◌, append_assoc}
-use Prim.Native.Nat.{ℕ, ◌+◌, ◌≤◌, ◌<◌}
+use Prim.Native.Nat.{ℕ, ◌+◌, ◌≤◌}
 use native.Mathlib.Omega.{arith}
-use native.Mathlib.Numerals.{add-one}
-use lib.ListN.{length, take, drop, set, get_or, length-append}
-use lib.Seq.{length-take-le, take_at, drop-append-add, drop-drop, paste, paste-zero, paste-suc, take-length}
+use lib.ListN.{length, take, drop, length-append}
+use lib.Seq.{length-take-le, take_at, drop-append-add, drop-drop, paste-zero}
 use Rattle.retimer.specs.Bytes.{Wrote}
 
 module _ {x a y b z : List ℕ} {at m n : ℕ} (room : m ≤ length x) (first : Wrote x at a y m) (second : Wrote y m b z n) where
@@ -37,17 +36,3 @@ as_part {x} {a} {b} {y} {at} {m} w e = subst (λ (t : List ℕ). Wrote x at t y 
 
 pub writes_none : (x : List ℕ) (at : ℕ) → Wrote x at [] x at
 writes_none x at = record { is = paste-zero x at []; ends = omega arith }
-
--- The bytes of the loop that copies.
-module _ (x : List ℕ) (at : ℕ) (t : List ℕ) where
-  pub copies_none : x ≡ paste x at t 0
-  copies_none = paste-zero x at t
-
-  pub copies_more : (y : List ℕ) (i : ℕ) → at + length t ≤ length x → i < length t → y ≡ paste x at t i → set y (at + i) (get_or t i 0) ≡ paste x at t (i + 1)
-  copies_more y i room below e = ap (λ (l : List ℕ). set l (at + i) (get_or t i 0)) e ∙ paste-suc x at t i 0 (omega arith) below ∙ ap (paste x at t) (sym (add-one i))
-
-  pub copies_all : (y : List ℕ) (i : ℕ) → i ≡ length t → y ≡ paste x at t i → Wrote x at t y (at + i)
-  copies_all y i e is = record {
-    is = is ∙ ap (paste x at t) e ∙ ap (λ (l : List ℕ). take at x ++ l ++ drop (at + length t) x) (take-length t);
-    ends = ap (λ (k : ℕ). at + k) e;
-  }

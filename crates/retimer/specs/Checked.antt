@@ -1,22 +1,21 @@
 -- The answer of the load check as document 01 has it, and what its tests give each other.
-use Rattle.std.specs.Prelude.{Bool, ◌&&◌, ◌||◌, not, ◌≤◌, leb, ltb, eqb, length}
+use Rattle.std.specs.Prelude.{Result, Ok, Err, Bool, ◌&&◌, ◌||◌, not, ◌≤◌, leb, ltb, eqb, length}
 use Rattle.enforcement.specs.Limits.{max_size}
 use Rattle.enforcement.specs.Automaton.{Bytes, locations, clocks, actions, Transition}
 use Rattle.enforcement.specs.Loading.{HeaderFits, Layout, bounds_pass, one_clock_passes}
 use Rattle.enforcement.specs.Loading as loading
 use Rattle.retimer.specs.Reasons.{reason_of}
 use Rattle.retimer.specs.declared.sheet.Counts.{Counts}
-use Rattle.retimer.specs.declared.sheet.Checked.{Checked}
-use Rattle.retimer.specs.declared.sheet.Checked.TheVariants.{Accepted, Refused}
+use Rattle.retimer.specs.declared.reason.Reason.{Reason}
 
 -- The figures of the desk program's first line.
 abbrev pub figures_of : Counts → loading.Counts
 figures_of k = record { locations = k.locations; clocks = k.clocks; actions = k.actions; transitions = k.transitions; accepting = k.accepting }
 
 -- The answer that a declared one stands for.
-abbrev pub checked_of : Checked → loading.Checked
-checked_of (Accepted k) = loading.accepted (figures_of k)
-checked_of (Refused r) = loading.refused (reason_of r)
+abbrev pub checked_of : Result Counts Reason → loading.Checked
+checked_of (Ok k) = loading.accepted (figures_of k)
+checked_of (Err r) = loading.refused (reason_of r)
 
 -- The parts of the test of a transition: what it names, its bounds, and what is asked of clock 2.
 abbrev pub names_pass : Bytes → Transition → Bool

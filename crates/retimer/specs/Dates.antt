@@ -1,5 +1,5 @@
 -- The dates as they are read off: what playing an action now comes to, and what was written.
-use Rattle.std.specs.Prelude.{◌≡◌, List, ◌++◌, ℕ, ◌+◌, ◌*◌, ◌≤◌, ◌<◌, length, get_or, drop, take}
+use Rattle.std.specs.Prelude.{◌≡◌, Option, Some, None, IfSome, List, ◌++◌, ℕ, ◌+◌, ◌*◌, ◌≤◌, length, get_or, drop, take}
 use Rattle.std.proofs.Math.Option.{some}
 use Rattle.enforcement.specs.Limits.{max_count, max_date}
 use Rattle.enforcement.specs.Automaton.{Bytes}
@@ -11,10 +11,6 @@ use Rattle.retimer.specs.declared.optimum.Ahead.{Ahead}
 use Rattle.retimer.specs.Readings.{located, Standing}
 use Rattle.retimer.specs.Costs.{never, cost, Ground}
 
--- The most actions of a short list.
-abbrev pub few_actions : ℕ
-few_actions = 5
-
 -- The prospect of the actions from k on.
 abbrev pub left_at : Bytes → List ℕ → ℕ → Configuration → Prospect
 left_at s cs k p = prospect (compile s) (drop k cs) p
@@ -23,11 +19,16 @@ left_at s cs k p = prospect (compile s) (drop k cs) p
 abbrev pub played_now : Bytes → List ℕ → ℕ → Configuration → Prospect
 played_now s cs k p = after_step ((compile s).step (get_or cs k 0) p) (prospect (compile s) (drop (k + 1) cs))
 
--- The least ticks where the action k is played now and, where there are such, the configuration that it leads to.
-pub record AheadRight (s : Bytes) (cs : List ℕ) (k l : ℕ) (r first second : List ℕ) (v : Ahead) : Type 0 where
-  pub value_is : v.cost ≡ cost (played_now s cs k (located l r))
-  pub leads : v.cost < never → (compile s).step (get_or cs k 0) (located l r) ≡ some (located v.location v.readings)
-  pub standing : Standing s v.location v.readings
+-- The cost ahead; never where there is nothing ahead.
+abbrev pub cost_ahead : Option Ahead → ℕ
+cost_ahead (Some v) = v.cost
+cost_ahead None = never
+
+-- The least ticks where the action k is played now and, where it can be, the configuration that it leads to.
+pub record AheadRight (s : Bytes) (cs : List ℕ) (k l : ℕ) (r first second : List ℕ) (o : Option Ahead) : Type 0 where
+  pub value_is : cost_ahead o ≡ cost (played_now s cs k (located l r))
+  pub leads : IfSome o (λ v. (compile s).step (get_or cs k 0) (located l r) ≡ some (located v.location v.readings))
+  pub standing : IfSome o (λ v. Standing s v.location v.readings)
   pub ground : Ground s cs first second
 
 -- A state of the reading of dates: k actions are played by date t, and what is left takes v ticks.

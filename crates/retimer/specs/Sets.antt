@@ -2,6 +2,7 @@
 -- A set has h rows for each location. Row i of h stands for the second reading width - h + i: all of them with two clocks, only the saturated one with one clock.
 use Rattle.std.specs.Prelude.{◌≡◌, Bool, true, cond, List, ◌⊎◌, ◌↔◌, ℕ, ◌+◌, ◌*◌, ◌^◌, ◌≤◌, ◌<◌, min, ◌-◌, length, get_or, eqb}
 use Rattle.std.proofs.Math.Option.{some}
+use Rattle.std.specs.Int.Bits.{bit_and, bit_or}
 use Rattle.enforcement.specs.Automaton.{Bytes, Transition, transition_at, transitions, bit, clocks, locations, within, enabled}
 use Rattle.enforcement.specs.Loading.{WellFormed, Fits}
 use Rattle.enforcement.specs.TimedWord.{Configuration, step}
@@ -84,6 +85,12 @@ pub record Joined (out new : List ℕ) (Q : ℕ → ℕ → Type 0) (a b : ℕ) 
   pub sized : length new ≡ length out
   pub narrow : Narrow new
   pub right : (x i : ℕ) → Member new x i ↔ (Member out x i ⊎ ((a ≤ i) × (i < b) × Q x i))
+
+-- The rows from a up to b have gained what P says of their readings in cols, the others nothing.
+pub record Gains (src out new : List ℕ) (cols a b : ℕ) (P : ℕ → ℕ → Type 0) : Type 0 where
+  pub sized : length new ≡ length out
+  pub gained : (i : ℕ) → a ≤ i → i < b → (v : ℕ) × P (bit_and (get_or src i 0) cols) v × (get_or new i 0 ≡ bit_or (get_or out i 0) v)
+  pub rest : (i : ℕ) → (i < a) ⊎ (b ≤ i) → get_or new i 0 ≡ get_or out i 0
 
 -- The readings of a row that are in cols are kept.
 abbrev pub Kept : List ℕ → ℕ → ℕ → ℕ → Type 0

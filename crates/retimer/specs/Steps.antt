@@ -1,5 +1,5 @@
 -- What the look-up of a transition promises.
-use Rattle.std.specs.Prelude.{◌≡◌, Bool, true, false, ◌&&◌, List, [], ◌∷◌, ◌⊎◌, ℕ, ◌+◌, ◌≤◌, eqb, length}
+use Rattle.std.specs.Prelude.{Option as MaybePlace, MatchOption, ◌≡◌, Bool, true, false, ◌&&◌, List, [], ◌∷◌, ◌⊎◌, ℕ, ◌+◌, ◌≤◌, eqb, length}
 use Rattle.std.proofs.Math.Option.{Option, none, some}
 use Rattle.enforcement.specs.Automaton.{Bytes, Transition, byte, transition_at, enabled}
 use Rattle.enforcement.specs.Loading.{Fits}
@@ -31,10 +31,9 @@ pub record Taken (s : Bytes) (c l : ℕ) (r : List ℕ) (p : ℕ) : Type 0 where
   pub fits : Fits s (transition_at s p)
   pub is : step s c (located l r) ≡ some (fire (transition_at s p) (located l r))
 
--- The place of the transition to take; 0 where there is none.
-pub record Placed (s : Bytes) (c l : ℕ) (r : List ℕ) (p : ℕ) : Type 0 where
-  pub nowhere : p ≡ 0 → step s c (located l r) ≡ none
-  pub somewhere : (p ≡ 0 → ⊥) → Taken s c l r p
+-- The place of the transition to take, if there is one.
+abbrev pub Placed : Bytes → ℕ → ℕ → List ℕ → MaybePlace ℕ → Type 0
+Placed s c l r p = MatchOption p (step s c (located l r) ≡ none) (λ n. Taken s c l r n)
 
 -- One of some transitions.
 abbrev pub One : (Transition → Type 0) → List Transition → Type 0

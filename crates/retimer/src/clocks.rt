@@ -4,20 +4,16 @@ ghost use Rattle.enforcement.specs.Automaton.{within};
 ghost use Rattle.enforcement.specs.Model.{top};
 ghost use Rattle.retimer.specs.Readings.{Readings, waited, reset_by, past};
 
+use crate::comparison;
 use crate::comparison::Comparison;
 use crate::limits::Monitor;
-use crate::{bytes, comparison};
 
 // A reading n ticks later.
 pub fn later(x: u8, n: u32) -> u8
     requires { x ≤ top }
     ensures { result ≡ min (x + n) top }
 {
-    if n < (Monitor::TOP - x) as u32 {
-        x + n as u8
-    } else {
-        Monitor::TOP
-    }
+    x + n.min(u32::from(Monitor::TOP - x)) as u8
 }
 
 // Ticks pass.
@@ -43,7 +39,7 @@ fn kept(bit: u8, x: u8) -> u8
     if bit == 1 { 0 } else { x }
 }
 
-// The same of a second reading that counts rows.
+// The same of a second reading that counts rows. No plainer as one generic function: its zero would need a trait.
 pub fn row_after(bit: u8, y: usize) -> usize
     ensures { result ≡ cond (eqb bit 1) 0 y }
 {
@@ -78,5 +74,5 @@ pub fn past(high: u8) -> usize
     if high == 255 {
         return Monitor::WIDTH;
     }
-    bytes::wide(high) + 1
+    usize::from(high) + 1
 }

@@ -12,7 +12,7 @@ pub enum Comparison {
     Between,
 }
 
-// The first case that fits: no upper bound, low equal to high, low zero, and the rest.
+// The first case that fits: no upper bound, low equal to high, low zero, and the rest. A high of 255 is the sheet's byte for none, as `pick` has it.
 pub fn of(low: u8, high: u8) -> Comparison
     ensures { comparison_of result ≡ pick low high }
 {

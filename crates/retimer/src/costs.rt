@@ -1,5 +1,5 @@
 // The least ticks of a list of actions. Costs are kept only where a reading is 0, as right after a reset; from there the search stays on one diagonal until the next reset.
-ghost use Rattle.std.specs.Prelude.{◌≡◌, cond, ◌+◌, ◌≤◌, ◌<◌, min, length, drop};
+ghost use Rattle.std.specs.Prelude.{◌≡◌, cond, ◌+◌, ◌≤◌, ◌<◌, length, drop};
 ghost use Rattle.enforcement.specs.Limits.{max_count};
 ghost use Rattle.enforcement.specs.Automaton.{accepting, locations, transition_at};
 ghost use Rattle.enforcement.specs.Loading.{WellFormed, Fits};
@@ -11,7 +11,7 @@ ghost use Rattle.retimer.specs.Chains.{Chain, Searching, Arrived, kept_at, worth
 use crate::limits::Monitor;
 use crate::{bytes, clocks, liveness, locations, waits};
 
-// The cost where a list has no correction: one more than the most ticks of a correction.
+// The cost where a list has no correction: one more than the most ticks of a correction. A number and no None: the least of costs is taken with it, and a memo's cell has two bytes.
 pub const NEVER: u16 = Monitor::LONGEST as u16 + 1;
 
 // A chain: the locations that are reached along a diagonal without a reset, and the least ticks so far of what left it or ended. Their positions stand in an array beside it.
@@ -26,7 +26,7 @@ pub fn place(k: usize, l: u8, z: u8) -> usize
     requires { (1 ≤ k) × ((k ≤ max_count) × ((l < max_count) × (z ≤ top))) }
     ensures { result ≡ place_of k l z }
 {
-    ((k - 1) * Monitor::COUNT + bytes::wide(l)) * Monitor::WIDTH + bytes::wide(z)
+    ((k - 1) * Monitor::COUNT + usize::from(l)) * Monitor::WIDTH + usize::from(z)
 }
 
 // The reading that a transition keeps whose reset set is not empty, u ticks after the readings x and y; 0 where it keeps none.
@@ -35,10 +35,10 @@ fn kept(set: u8, x: u8, y: u8, u: u8) -> u8
     ensures { (result ≡ kept_at set x y u) × (result ≤ top) }
 {
     if set == 1 {
-        return clocks::later(y, u as u32);
+        return clocks::later(y, u32::from(u));
     }
     if set == 2 {
-        return clocks::later(x, u as u32);
+        return clocks::later(x, u32::from(u));
     }
     0
 }
@@ -49,9 +49,9 @@ fn worth(set: u8, z: u8, n: u8) -> u8
     ensures { result ≡ worth set z n }
 {
     if set == 3 {
-        return waits::smaller(n, 1);
+        return n.min(1);
     }
-    waits::smaller(n, Monitor::TOP - z + 1)
+    n.min(Monitor::TOP - z + 1)
 }
 
 // A location is reached at a position: the sooner of that and of the one it has is kept.
@@ -72,19 +72,12 @@ fn reach(next: &mut [u8], t: usize, u: u8, front: Front) -> Front
     }
 }
 
-// The better of two costs.
-pub fn better(v: u16, w: u16) -> u16
-    ensures { result ≡ min v w }
-{
-    if v < w { v } else { w }
-}
-
 // The cost where all is played.
 pub fn ending(s: &[u8], l: u8) -> u16
     requires { (WellFormed s.now) × (l < max_count) }
     ensures { result ≡ cond (accepting s.now l) 0 never }
 {
-    if liveness::accepts(s, bytes::wide(l)) {
+    if liveness::accepts(s, usize::from(l)) {
         0
     } else {
         NEVER
@@ -99,7 +92,7 @@ fn finish(s: &[u8], t: usize, u: u8, front: Front) -> Front
     if liveness::accepts(s, t) {
         return Front {
             places: front.places,
-            best: u as u16,
+            best: u16::from(u),
         };
     }
     front
@@ -121,21 +114,21 @@ fn after<'a>(
     ensures { Costed s.now cs.now first.new second.new (cost_at s.now (drop k cs.now) (just_reset clock l z)) result }
 {
     let i = place(k, l, z);
-    if clock {
-        let known = second[i];
-        if 0 < known {
-            return known - 1;
-        }
-        let v = chain(s, cs, k, l, z, 0, first, second);
-        second[i] = v + 1;
-        return v;
-    }
-    let known = first[i];
+    // A cell of a memo has two bytes: 0 where nothing is known, else one more than the cost.
+    let (known, x, y) = if clock {
+        (second[i], z, 0)
+    } else {
+        (first[i], 0, z)
+    };
     if 0 < known {
         return known - 1;
     }
-    let v = chain(s, cs, k, l, 0, z, first, second);
-    first[i] = v + 1;
+    let v = chain(s, cs, k, l, x, y, first, second);
+    if clock {
+        second[i] = v + 1;
+    } else {
+        first[i] = v + 1;
+    }
     v
 }
 
@@ -156,9 +149,10 @@ fn chain<'a>(
 {
     let mut here = [0u8; Monitor::COUNT];
     let mut front = Front {
-        places: locations::with(0, bytes::wide(l)),
+        places: locations::with(0, usize::from(l)),
         best: NEVER,
     };
+    // No count: it ends where no location is left.
     let mut i = k;
     while front.places != 0 {
         let mut next = [0u8; Monitor::COUNT];
@@ -190,10 +184,11 @@ fn play<'a>(
         places: 0,
         best: front.best,
     };
+    // A walk over set bits: no count.
     let mut left = front.places;
     while 0 < left {
         let l = u16::trailing_zeros(left) as u8;
-        let e = here[bytes::wide(l)];
+        let e = here[usize::from(l)];
         found = leave(s, cs, k, l, e, x, y, found, next, first, second);
         left = left & (left - 1);
     }
@@ -218,13 +213,12 @@ fn leave<'a>(
     requires { (Searching s.now cs.now k x y first.old second.old) × ((Chain s.now x y next.old front.places front.best) × (l < locations s.now)) }
     ensures { Gained s.now cs.now k x y (Rules s.now cs.now k x y l e) next.old front.places front.best next.new result.places result.best first.new second.new }
 {
-    let pair = 6 + 4 * bytes::wide(l);
-    let mut p = bytes::word_at(s, pair);
-    let end = p + bytes::word_at(s, pair + 2);
+    let pair = 6 + 4 * usize::from(l);
+    let start = bytes::word_at(s, pair);
+    let end = start + bytes::word_at(s, pair + 2);
     let mut found = front;
-    while p < end {
+    for p in (start..end).step_by(7) {
         found = rule(s, cs, k, p, e, x, y, found, next, first, second);
-        p += 7;
     }
     found
 }
@@ -250,7 +244,7 @@ fn rule<'a>(
     if s[p] != cs[k] {
         return front;
     }
-    let from = waits::larger(e, waits::first_wait(s, p, x, y));
+    let from = e.max(waits::first_wait(s, p, x, y));
     let end = waits::end_wait(s, p, x, y);
     if end <= from {
         return front;
@@ -260,11 +254,11 @@ fn rule<'a>(
     }
     let t = s[p + 1];
     if k + 1 == cs.len() {
-        return finish(s, bytes::wide(t), from, front);
+        return finish(s, usize::from(t), from, front);
     }
     let set = s[p + 2];
     if set == 0 {
-        return reach(next, bytes::wide(t), from, front);
+        return reach(next, usize::from(t), from, front);
     }
     let z = kept(set, x, y, from);
     let n = worth(set, z, end - from);
@@ -294,15 +288,13 @@ fn over<'a>(
     ensures { OverDone s.now cs.now k t clock z n from best result first.new second.new }
 {
     let mut v = best;
-    let mut i: u8 = 0;
-    while i < n {
-        let u = (from + i) as u16;
+    for i in 0..n {
+        let u = u16::from(from + i);
         if v <= u {
             return v;
         }
         let c = after(s, cs, k + 1, t, clock, z + i, first, second) + u;
-        v = better(v, c);
-        i += 1;
+        v = v.min(c);
     }
     v
 }

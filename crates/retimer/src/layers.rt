@@ -12,7 +12,7 @@ ghost use Rattle.retimer.specs.Layers.{cell_of, tick, RowAsked, RowTicked, half,
 use crate::limits::Monitor;
 use crate::{bytes, clocks, costs, locations, targets};
 
-// A table has the costs of as many locations.
+// A table has the costs of as many locations. Those of an action stand in two tables, low and high: one of both sizes would not fit a frame of 32 KB.
 const HALF: usize = Monitor::COUNT / 2;
 
 const AREA: usize = Monitor::WIDTH * Monitor::WIDTH;
@@ -32,7 +32,7 @@ fn lower(table: &mut [u16], i: usize, v: u16)
     requires { i < length table.old }
     ensures { table.new ≡ set table.old i (min v (get_or table.old i 0)) }
 {
-    table[i] = costs::better(v, table[i]);
+    table[i] = v.min(table[i]);
 }
 
 // The last row of a location, which is its own row a tick later: from its end on.
@@ -40,10 +40,8 @@ fn tick_last(table: &mut [u16], here: usize)
     requires { RowAsked here table.old }
     ensures { RowTicked here here table.old table.new }
 {
-    let mut x = Monitor::WIDTH - 1;
-    while 0 < x {
-        let v = table[here + x] + 1;
-        x -= 1;
+    for x in (0..Monitor::WIDTH - 1).rev() {
+        let v = table[here + (x + 1)] + 1;
         lower(table, here + x, v);
     }
 }
@@ -54,14 +52,13 @@ fn tick_row(table: &mut [u16], here: usize)
     ensures { RowTicked here (here + width) table.old table.new }
 {
     let above = here + Monitor::WIDTH;
-    let mut x = 0;
-    while x + 1 < Monitor::WIDTH {
+    let last = Monitor::WIDTH - 1;
+    for x in 0..last {
         let v = table[above + (x + 1)] + 1;
         lower(table, here + x, v);
-        x += 1;
     }
-    let v = table[above + x] + 1;
-    lower(table, here + x, v);
+    let v = table[above + last] + 1;
+    lower(table, here + last, v);
 }
 
 // The row y of a location.
@@ -82,12 +79,10 @@ fn tick_rows(table: &mut [u16], h: usize, n: usize, places: u16, y: usize)
     requires { ((Ready 0 table.old) × (y ≤ top)) × (Stretch max_count h n) }
     ensures { RowsTicked (Chosen h n places) y table.old table.new }
 {
-    let mut m = 0;
-    while m < n {
+    for m in 0..n {
         if locations::has(places, h + m) {
             tick_at(table, m, y);
         }
-        m += 1;
     }
 }
 
@@ -96,38 +91,22 @@ fn ticks(table: &mut [u16], h: usize, n: usize, places: u16)
     requires { (Ready 0 table.old) × (Stretch max_count h n) }
     ensures { AllTicked (Chosen h n places) table.old table.new }
 {
-    let mut y = Monitor::WIDTH;
-    while 0 < y {
-        y -= 1;
+    for y in (0..Monitor::WIDTH).rev() {
         tick_rows(table, h, n, places, y);
     }
 }
 
-// The columns x up to end of one row: the lesser of each cost and of v.
-fn lower_by(v: u16, table: &mut [u16], to: usize, x: usize, end: usize)
-    requires { LineAsked to end table.old }
-    ensures { RowLowered (λ i. v) to x end table.old table.new }
+// The columns x up to end of one row: the lesser of each cost and of another.
+fn lower_by<F: Fn(usize) -> u16>(other: F, table: &mut [u16], to: usize, x: usize, end: usize)
+    requires { (LineAsked to end table.old) × ((i : ℕ) → i < end → F.pre other i) }
+    ensures { (f : ℕ → ℕ) → ((i v : ℕ) → F.post other i v → v ≡ f i) → RowLowered f to x end table.old table.new }
 {
-    let mut i = x;
-    while i < end {
-        lower(table, to + i, v);
-        i += 1;
+    for i in x..end {
+        lower(table, to + i, other(i));
     }
 }
 
-// The same with the costs of another table's row.
-fn lower_each(other: &[u16], from: usize, table: &mut [u16], to: usize, x: usize, end: usize)
-    requires { (LineAsked to end table.old) × (LineAsked from end other.now) }
-    ensures { RowLowered (λ i. get_or other.now (from + i) 0) to x end table.old table.new }
-{
-    let mut i = x;
-    while i < end {
-        lower(table, to + i, other[from + i]);
-        i += 1;
-    }
-}
-
-// The same with another table's row, or with its first column where the first clock is reset.
+// The same with another table's row, or with its first column where the first clock is reset. The choice stands outside the loop: tried inside, a short row takes a third more instructions.
 fn lower_row(
     other: &[u16],
     from: usize,
@@ -141,10 +120,11 @@ fn lower_row(
     ensures { RowLowered (λ i. get_or other.now (cond spread from (from + i)) 0) to x end table.old table.new }
 {
     if spread {
-        lower_by(other[from], table, to, x, end);
+        let v = other[from];
+        lower_by(|_| v, table, to, x, end);
         return;
     }
-    lower_each(other, from, table, to, x, end);
+    lower_by(|i| other[from + i], table, to, x, end);
 }
 
 // The costs of a location, where the transition at p is enabled: the lesser of each and of that in another table, to which it leads.
@@ -153,11 +133,11 @@ fn lower_box(s: &[u8], p: usize, other: &[u16], t: usize, table: &mut [u16], m: 
     ensures { BoxLowered (transition_at s.now p) other.now t m table.old table.new }
 {
     let set = s[p + 2];
-    let x = bytes::wide(s[p + 3]);
+    let x = usize::from(s[p + 3]);
     let end = clocks::past(s[p + 4]);
+    let first = usize::from(s[p + 5]);
     let last = clocks::past(s[p + 6]);
-    let mut y = bytes::wide(s[p + 5]);
-    while y < last {
+    for y in first..last {
         let row = clocks::row_after(set / 2 % 2, y);
         lower_row(
             other,
@@ -168,7 +148,6 @@ fn lower_box(s: &[u8], p: usize, other: &[u16], t: usize, table: &mut [u16], m: 
             x,
             end,
         );
-        y += 1;
     }
 }
 
@@ -189,7 +168,7 @@ fn rule(
     if s[p] != cs[k] {
         return;
     }
-    let t = bytes::wide(s[p + 1]);
+    let t = usize::from(s[p + 1]);
     if t < HALF {
         lower_box(s, p, low, t, table, m);
         return;
@@ -202,12 +181,8 @@ fn clear(table: &mut [u16], m: usize, c: u16)
     requires { (Ready m table.old) × (c ≤ never) }
     ensures { Cleared m c table.old table.new }
 {
-    let mut i = cell(m, 0, 0);
-    let end = i + AREA;
-    while i < end {
-        table[i] = c;
-        i += 1;
-    }
+    let here = cell(m, 0, 0);
+    table[here..here + AREA].fill(c);
 }
 
 // What the action k costs at once, without a tick, everywhere at a location.
@@ -226,11 +201,10 @@ fn write(
 {
     clear(table, m, costs::NEVER);
     let pair = 6 + 4 * l;
-    let mut p = bytes::word_at(s, pair);
-    let end = p + bytes::word_at(s, pair + 2);
-    while p < end {
+    let first = bytes::word_at(s, pair);
+    let end = first + bytes::word_at(s, pair + 2);
+    for p in (first..end).step_by(7) {
         rule(s, cs, k, p, low, high, table, m);
-        p += 7;
     }
 }
 
@@ -249,12 +223,10 @@ fn write_all(
     requires { (Laying s.now cs.now k (EntersFromAny s.now (get_or cs.now k 0) places) low.now high.now) × ((Stretch (locations s.now) h n) × (Ready 0 table.old)) }
     ensures { AllWritten s.now (get_or cs.now k 0) (drop (k + 1) cs.now) h (Chosen h n places) table.old table.new }
 {
-    let mut m = 0;
-    while m < n {
+    for m in 0..n {
         if locations::has(places, h + m) {
             write(s, cs, k, h + m, low, high, table, m);
         }
-        m += 1;
     }
 }
 
@@ -273,13 +245,11 @@ fn note(
     ensures { Noting s.now cs.now k (λ (i : ℕ). i ≡ l) first.old second.old first.new second.new }
 {
     let base = costs::place(k, l as u8, 0);
-    let mut z = 0;
-    while z < Monitor::WIDTH {
+    for z in 0..Monitor::WIDTH {
         let column = cell(m, 0, z);
         let row = cell(m, z, 0);
         first[base + z] = table[column] + 1;
         second[base + z] = table[row] + 1;
-        z += 1;
     }
 }
 
@@ -298,12 +268,10 @@ fn note_all(
     requires { (((1 ≤ k) × (k < length cs.now)) × (Stretch (locations s.now) h n)) × (((Ready 0 table.now) × (AllLaid s.now (drop k cs.now) h (Chosen h n places) table.now)) × (Ground s.now cs.now first.old second.old)) }
     ensures { Noting s.now cs.now k (ChosenFrom h n places) first.old second.old first.new second.new }
 {
-    let mut m = 0;
-    while m < n {
+    for m in 0..n {
         if locations::has(places, h + m) {
             note(s, cs, k, h + m, table, m, first, second);
         }
-        m += 1;
     }
 }
 
@@ -345,7 +313,7 @@ fn lay_all(
     requires { ((Laying s.now cs.now k (EntersFromAny s.now (get_or cs.now k 0) places) low.now high.now) × ((1 ≤ k) × (InSheet s.now places))) × (((Ready 0 newlow.old) × (Ready 0 newhigh.old)) × ((Ground s.now cs.now first.old second.old) × (Full s.now cs.now (k + 1) (EntersFromAny s.now (get_or cs.now k 0) places) first.old second.old))) }
     ensures { LayersOf s.now cs.now k places newlow.new newhigh.new first.new second.new }
 {
-    let n = bytes::wide(s[0]);
+    let n = usize::from(s[0]);
     if n <= HALF {
         lay_some(s, cs, k, 0, n, places, low, high, newlow, first, second);
         return;
@@ -384,10 +352,8 @@ fn end_all(s: &[u8], low: &mut [u16], high: &mut [u16])
     requires { (WellFormed s.now) × ((Ready 0 low.old) × (Ready 0 high.old)) }
     ensures { Ended s.now low.new high.new }
 {
-    let mut l = 0;
-    while l < bytes::wide(s[0]) {
+    for l in 0..usize::from(s[0]) {
         end_one(s, l, low, high);
-        l += 1;
     }
 }
 
@@ -417,6 +383,7 @@ fn lay_from(
 }
 
 // The memos of the actions after the first, in four tables. Each has a frame of its own, as a memo has: the function calls itself with one more table, until there are four.
+// n counts the tables that are there. No plainer: an Option of a mutable slice gets no proof where a function calls itself.
 fn with_tables(
     s: &[u8],
     cs: &[u8],
@@ -456,10 +423,10 @@ pub fn layers(s: &[u8], cs: &[u8], l: u8, first: &mut [u16], second: &mut [u16])
     if s[1] == 1 {
         return;
     }
-    if cs.len() == 0 {
+    if cs.is_empty() {
         return;
     }
-    let places = targets::of(s, cs[0], bytes::wide(l));
+    let places = targets::of(s, cs[0], usize::from(l));
     let mut low = [0u16; 0];
     let mut high = [0u16; 0];
     let mut low2 = [0u16; 0];

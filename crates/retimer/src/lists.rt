@@ -12,18 +12,15 @@ pub fn actions(requests: [Request; Monitor::COUNT], n: usize) -> [u8; Monitor::B
     ensures { take n result ≡ actions_of (map request_of (take n requests)) }
 {
     let mut r = [0u8; Monitor::BATCH];
-    let mut i: usize = 0;
-    while i < n {
-        let e = requests[i];
-        r[i] = e.action;
-        i += 1;
+    for i in 0..n {
+        r[i] = requests[i].action;
     }
     r
 }
 
 // The first n slots, and then the first k requests and one more at their dates.
 pub fn with_slots(
-    slots: [Slot; Monitor::SCHEDULED],
+    mut slots: [Slot; Monitor::SCHEDULED],
     n: usize,
     requests: [Request; Monitor::COUNT],
     k: usize,
@@ -33,36 +30,26 @@ pub fn with_slots(
     requires { (n + (k + 1) ≤ max_scheduled) × (k ≤ max_count) }
     ensures { (map slot_of (take (n + (k + 1)) result) ≡ map slot_of (take n slots) ++ place (map request_of (take k requests) ++ (request_of last ∷ [])) (take (k + 1) ds)) × (length result ≡ max_scheduled) }
 {
-    let mut r = slots;
-    let mut i: usize = 0;
-    while i < k {
-        let e = requests[i];
-        r[n + i] = Slot {
-            request: e,
+    for i in 0..k {
+        slots[n + i] = Slot {
+            request: requests[i],
             date: ds[i],
         };
-        i += 1;
     }
-    r[n + k] = Slot {
+    slots[n + k] = Slot {
         request: last,
         date: ds[k],
     };
-    r
+    slots
 }
 
 // The first n slots without the first of them, at the front.
-pub fn without_first(slots: [Slot; Monitor::SCHEDULED], n: usize) -> [Slot; Monitor::SCHEDULED]
+pub fn without_first(mut slots: [Slot; Monitor::SCHEDULED], n: usize) -> [Slot; Monitor::SCHEDULED]
     requires { (0 < n) × (n ≤ max_scheduled) }
     ensures { (take (n - 1) result ≡ drop 1 (take n slots)) × (length result ≡ max_scheduled) }
 {
-    let mut r = slots;
-    let mut i: usize = 0;
-    while i + 1 < n {
-        let e = r[i + 1];
-        r[i] = e;
-        i += 1;
-    }
-    r
+    slots.copy_within(1..n, 0);
+    slots
 }
 
 // The bytes of a slice at the front of the largest automaton's bytes.
@@ -71,10 +58,6 @@ pub fn copied(s: &[u8]) -> [u8; Monitor::SIZE]
     ensures { (take (length s.now) result ≡ s.now) × (length result ≡ max_size) }
 {
     let mut r = [0u8; Monitor::SIZE];
-    let mut i: usize = 0;
-    while i < s.len() {
-        r[i] = s[i];
-        i += 1;
-    }
+    r[..s.len()].copy_from_slice(s);
     r
 }

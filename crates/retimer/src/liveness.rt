@@ -38,7 +38,7 @@ fn turn(s: &[u8], set: &mut [u64], l: usize, p: usize, gained: u16, from: usize)
     requires { (WellFormed s.now) × ((Sound s.now set.old) × ((l < locations s.now) × ((Place s.now l p) × (from ≡ least s.now)))) }
     ensures { Turn s.now set.old set.new l gained p result }
 {
-    if locations::has(gained, bytes::wide(s[p + 1])) {
+    if locations::has(gained, usize::from(s[p + 1])) {
         return lead::add_transition(s, set, l, p, from);
     }
     false
@@ -49,13 +49,11 @@ fn turns(s: &[u8], set: &mut [u64], l: usize, gained: u16, from: usize) -> bool
     requires { (WellFormed s.now) × ((Sound s.now set.old) × ((l < locations s.now) × (from ≡ least s.now))) }
     ensures { Turns s.now set.old set.new l gained (offset s.now l + size s.now l) result }
 {
-    let mut p = bytes::word_at(s, 6 + 4 * l);
-    let end = p + bytes::word_at(s, 8 + 4 * l);
+    let first = bytes::word_at(s, 6 + 4 * l);
+    let end = first + bytes::word_at(s, 8 + 4 * l);
     let mut changed = false;
-    while p < end {
-        let q = p;
-        p += 7;
-        if turn(s, set, l, q, gained, from) {
+    for p in (first..end).step_by(7) {
+        if turn(s, set, l, p, gained, from) {
             changed = true;
         }
     }
@@ -67,7 +65,7 @@ fn from_saturated(s: &[u8], set: &[u64], l: usize, p: usize, gained: u16) -> boo
     requires { (WellFormed s.now) × ((length set.now ≡ all_rows) × ((l < locations s.now) × (Place s.now l p))) }
     ensures { result ≡ bit gained (byte s.now (p + 1)) && leads set.now (transition_at s.now p) top top }
 {
-    if locations::has(gained, bytes::wide(s[p + 1])) {
+    if locations::has(gained, usize::from(s[p + 1])) {
         return lead::leads_saturated(s, set, p);
     }
     false
@@ -78,12 +76,10 @@ fn some_from_saturated(s: &[u8], set: &[u64], l: usize, gained: u16) -> bool
     requires { (WellFormed s.now) × ((length set.now ≡ all_rows) × (l < locations s.now)) }
     ensures { FromSaturated s.now set.now l gained (offset s.now l + size s.now l) result }
 {
-    let mut p = bytes::word_at(s, 6 + 4 * l);
-    let end = p + bytes::word_at(s, 8 + 4 * l);
-    while p < end {
-        let q = p;
-        p += 7;
-        if from_saturated(s, set, l, q, gained) {
+    let first = bytes::word_at(s, 6 + 4 * l);
+    let end = first + bytes::word_at(s, 8 + 4 * l);
+    for p in (first..end).step_by(7) {
+        if from_saturated(s, set, l, p, gained) {
             return true;
         }
     }
@@ -115,9 +111,7 @@ fn sweep(s: &[u8], set: &mut [u64], gained: u16, from: usize) -> u16
     ensures { Swept s.now set.old set.new result }
 {
     let mut next = 0;
-    let mut l = bytes::wide(s[0]);
-    while 0 < l {
-        l -= 1;
+    for l in (0..usize::from(s[0])).rev() {
         if improve(s, set, l, gained | next, from) {
             next = locations::with(next, l);
         }
@@ -141,6 +135,7 @@ fn live_set(s: &[u8]) -> Live
     let mut set = [0u64; sets::SIZE];
     let mut gained = bytes::word_at(s, 4) as u16;
     whole::fill_each(&mut set, gained);
+    // A loop to a fixpoint counts no index: no plainer as a `for`.
     while gained != 0 {
         gained = sweep(s, &mut set, gained, from);
     }
@@ -155,7 +150,7 @@ pub fn live_table(s: &[u8]) -> Liveness
     let live = live_set(s);
     let set = live.set;
     let mut counts = [0u8; Monitor::COUNTS];
-    diagonals::count(&set, &mut counts, bytes::wide(s[0]), least(s[1] == 1));
+    diagonals::count(&set, &mut counts, usize::from(s[0]), least(s[1] == 1));
     Liveness { counts }
 }
 

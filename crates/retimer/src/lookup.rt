@@ -7,7 +7,7 @@ ghost use Rattle.retimer.specs.Steps.{applies, Placed, StepRight};
 
 use crate::{bytes, clocks};
 
-// Where an action leads; the configuration that was left where no transition is enabled.
+// Where an action leads; the configuration that was left where no transition is enabled. No Option: the clause `StepRight.stays` and the edit `step_leaves_unfound` hold what is left then.
 #[derive(Clone, Copy)]
 pub struct Stepped {
     pub found: bool,
@@ -37,23 +37,22 @@ fn applies(s: &[u8], p: usize, c: u8, x: u8, y: u8) -> bool
     enabled(s, p, x, y)
 }
 
-// The place of the first transition of the location that is for the action and enabled, or 0.
-fn find(s: &[u8], c: u8, l: u8, r: [u8; 2]) -> usize
+// The place of the first transition of the location that is for the action and enabled.
+fn find(s: &[u8], c: u8, l: u8, r: [u8; 2]) -> Option<usize>
     requires { (WellFormed s.now) × (Standing s.now l r) }
     ensures { Placed s.now c l r result }
 {
-    let pair = 6 + 4 * bytes::wide(l);
-    let mut p = bytes::word_at(s, pair);
-    let end = p + bytes::word_at(s, pair + 2);
+    let pair = 6 + 4 * usize::from(l);
+    let start = bytes::word_at(s, pair);
+    let end = start + bytes::word_at(s, pair + 2);
     let x = r[0];
     let y = r[1];
-    while p < end {
+    for p in (start..end).step_by(7) {
         if applies(s, p, c, x, y) {
-            return p;
+            return Some(p);
         }
-        p += 7;
     }
-    0
+    None
 }
 
 // Takes the transition of the action that is enabled, if there is one.
@@ -61,19 +60,16 @@ pub fn step(s: &[u8], c: u8, l: u8, r: [u8; 2]) -> Stepped
     requires { (WellFormed s.now) × (Standing s.now l r) }
     ensures { StepRight s.now c l r result }
 {
-    let p = find(s, c, l, r);
-    if p == 0 {
-        return Stepped {
+    match find(s, c, l, r) {
+        Some(p) => Stepped {
+            found: true,
+            location: s[p + 1],
+            readings: clocks::reset(r, s[p + 2]),
+        },
+        None => Stepped {
             found: false,
             location: l,
             readings: r,
-        };
-    }
-    let target = s[p + 1];
-    let readings = clocks::reset(r, s[p + 2]);
-    Stepped {
-        found: true,
-        location: target,
-        readings: readings,
+        },
     }
 }

@@ -7,7 +7,8 @@ ghost use Rattle.retimer.specs.View.{Valid};
 ghost use Rattle.retimer.specs.Calls.{with_state, CallRight, FreshRight, no_monitor, LoadRight};
 
 use crate::limits::{Monitor, State};
-use crate::sheet::Checked;
+use crate::reason::Reason;
+use crate::sheet::Counts;
 use crate::state::Answer;
 use crate::{lists, liveness, outlook, sheet};
 
@@ -17,11 +18,11 @@ pub struct Answered {
     pub answer: Answer,
 }
 
-// The check's answer, with a box beside it. After a refusal `Monitor::nothing` stands in the box's place.
+// The check's answer, with a box beside it. After a refusal `Monitor::nothing` stands in the box's place, as `LoadRight.no_box` and `ReplayRight.no_box` promise.
 #[derive(Clone, Copy)]
 pub struct Loaded {
     pub monitor: Monitor,
-    pub checked: Checked,
+    pub checked: Result<Counts, Reason>,
 }
 
 impl Monitor {
@@ -33,6 +34,7 @@ impl Monitor {
         let live = liveness::live_table(s);
         let counts = live.counts;
         let bytes = lists::copied(s);
+        // Of a clock that the sheet lacks the reading is saturated, as `Standing.one_clock` asks.
         let second = if s[1] == 1 { Monitor::TOP } else { 0 };
         let location = s[3];
         let lit = outlook::none_next(s, &counts, location, [0, second]);
@@ -62,11 +64,11 @@ impl Monitor {
     {
         let checked = sheet::check(s, loaded);
         match checked {
-            Checked::Accepted(_) => Loaded {
+            Ok(_) => Loaded {
                 monitor: Monitor::fresh(s, loaded),
                 checked,
             },
-            Checked::Refused(_) => Loaded {
+            Err(_) => Loaded {
                 monitor: Monitor::nothing(),
                 checked,
             },

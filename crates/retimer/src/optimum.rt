@@ -1,9 +1,10 @@
 // The dates of a list of actions that has a correction: the least ticks, and each action as soon as that keeps them.
 ghost use Rattle.std.specs.Prelude.{◌≡◌, true, false, ◌+◌, ◌≤◌, ◌<◌, length, set};
 ghost use Rattle.retimer.specs.Readings.{Standing};
-ghost use Rattle.retimer.specs.Costs.{Known, Ground};
+ghost use Rattle.enforcement.specs.Limits.{max_count};
+ghost use Rattle.retimer.specs.Costs.{places_for, Known, Ground};
 ghost use Rattle.retimer.specs.Optimum.{Asked, PlanRight};
-ghost use Rattle.retimer.specs.Dates.{few_actions, AheadRight, Dating, Written};
+ghost use Rattle.retimer.specs.Dates.{AheadRight, Dating, Written};
 
 use crate::limits::Monitor;
 use crate::{clocks, costs, layers, lookup};
@@ -23,7 +24,7 @@ struct Reached {
     readings: [u8; 2],
 }
 
-// Where an action leads that is played now, and the cost from there. Where the cost is that of no correction, the configuration means nothing.
+// Where an action leads that is played now, and the cost from there.
 #[derive(Clone, Copy)]
 struct Ahead {
     cost: u16,
@@ -38,7 +39,7 @@ const FEW_PLACES: usize = (FEW - 1) * Monitor::COUNT * Monitor::WIDTH;
 
 const PLACES: usize = (Monitor::BATCH - 1) * Monitor::COUNT * Monitor::WIDTH;
 
-// Looks at playing the action k now.
+// Looks at playing the action k now: None where no transition is enabled.
 fn look<'a>(
     s: &'a [u8],
     cs: &'a [u8],
@@ -47,25 +48,21 @@ fn look<'a>(
     r: [u8; 2],
     first: &mut [u16],
     second: &mut [u16],
-) -> Ahead
+) -> Option<Ahead>
     requires { (Ground s.now cs.now first.old second.old) × ((k < length cs.now) × (Standing s.now l r)) }
     ensures { AheadRight s.now cs.now k l r first.new second.new result }
 {
     let next = lookup::step(s, cs[k], l, r);
-    let readings = next.readings;
     if !next.found {
-        return Ahead {
-            cost: costs::NEVER,
-            location: next.location,
-            readings,
-        };
+        return None;
     }
+    let readings = next.readings;
     let cost = costs::cost(s, cs, k + 1, next.location, readings, first, second);
-    Ahead {
+    Some(Ahead {
         cost,
         location: next.location,
         readings,
-    }
+    })
 }
 
 // Plays the action k as soon as that keeps the least ticks, which are v, and goes on with those after it.
@@ -91,23 +88,23 @@ fn waiting<'a>(
             readings: r,
         };
     }
-    let ahead = look(s, cs, k, l, r, first, second);
-    let there = ahead.readings;
-    if ahead.cost == v {
-        return playing(s, cs, k, ahead.location, there, t, v, first, second, out);
+    match look(s, cs, k, l, r, first, second) {
+        Some(q) if q.cost == v => playing(
+            s, cs, k, q.location, q.readings, t, v, first, second, out,
+        ),
+        _ => waiting(
+            s,
+            cs,
+            k,
+            l,
+            clocks::wait(r),
+            t + 1,
+            v - 1,
+            first,
+            second,
+            out,
+        ),
     }
-    waiting(
-        s,
-        cs,
-        k,
-        l,
-        clocks::wait(r),
-        t + 1,
-        v - 1,
-        first,
-        second,
-        out,
-    )
 }
 
 // Plays the action k at date t; the configuration is the one after it.
@@ -165,9 +162,10 @@ fn plan_one<'a>(s: &'a [u8], cs: &'a [u8], l: u8, r: [u8; 2], t: u32, out: &mut 
     solve(s, cs, l, r, t, out, &mut first, &mut second)
 }
 
-// A short list. Each memo has a frame of its own, so that no frame is large: the function calls itself once, with the first memo, for the second. The compiler would join the frames of
-// two functions; it does not join those of one that calls itself.
-fn plan_few<'a>(
+// The plan, with the first memo at hand and a second one of N places. For a list that is not short, on two clocks, all that the search can ask the memos for is worked out first, so that it
+// finds each cost right after a reset at hand.
+#[inline(never)]
+fn with_second_memo<'a, const N: usize>(
     s: &'a [u8],
     cs: &'a [u8],
     l: u8,
@@ -175,38 +173,32 @@ fn plan_few<'a>(
     t: u32,
     out: &mut [u32],
     first: &mut [u16],
-    given: bool,
 ) -> Planned
-    requires { (Asked s.now cs.now l r t out.old) × ((length cs.now ≤ few_actions) × (given ≡ true → Known s.now cs.now false first.old)) }
+    requires { (Asked s.now cs.now l r t out.old) × (((places_for (length cs.now) ≤ N) × (N ≤ places_for (max_count + 1))) × (Known s.now cs.now false first.old)) }
     ensures { PlanRight s.now cs.now l r t out.old out.new result }
 {
-    let mut own = [0u16; FEW_PLACES];
-    if given {
-        return solve(s, cs, l, r, t, out, first, &mut own);
+    let mut second = [0u16; N];
+    if FEW < cs.len() {
+        layers::layers(s, cs, l, first, &mut second);
     }
-    plan_few(s, cs, l, r, t, out, &mut own, true)
+    solve(s, cs, l, r, t, out, first, &mut second)
 }
 
-// Any list, in the same way. On two clocks all that the search can ask the memos for is worked out first, so that it finds each cost right after a reset at hand.
-fn plan_many<'a>(
+// The plan, with memos of N places. Each memo has a frame of its own, so that no frame is large: the compiler is not to join the two functions.
+#[inline(never)]
+fn with_memos<'a, const N: usize>(
     s: &'a [u8],
     cs: &'a [u8],
     l: u8,
     r: [u8; 2],
     t: u32,
     out: &mut [u32],
-    first: &mut [u16],
-    given: bool,
 ) -> Planned
-    requires { (Asked s.now cs.now l r t out.old) × (given ≡ true → Known s.now cs.now false first.old) }
+    requires { (Asked s.now cs.now l r t out.old) × ((places_for (length cs.now) ≤ N) × (N ≤ places_for (max_count + 1))) }
     ensures { PlanRight s.now cs.now l r t out.old out.new result }
 {
-    let mut own = [0u16; PLACES];
-    if given {
-        layers::layers(s, cs, l, first, &mut own);
-        return solve(s, cs, l, r, t, out, first, &mut own);
-    }
-    plan_many(s, cs, l, r, t, out, &mut own, true)
+    let mut first = [0u16; N];
+    with_second_memo::<N>(s, cs, l, r, t, out, &mut first)
 }
 
 // The least ticks of a list that has a correction, its dates from t on, and the configuration after them.
@@ -217,9 +209,8 @@ pub fn plan<'a>(s: &'a [u8], cs: &'a [u8], l: u8, r: [u8; 2], t: u32, out: &mut 
     if cs.len() <= 1 {
         return plan_one(s, cs, l, r, t, out);
     }
-    let mut none = [0u16; 0];
     if cs.len() <= FEW {
-        return plan_few(s, cs, l, r, t, out, &mut none, false);
+        return with_memos::<FEW_PLACES>(s, cs, l, r, t, out);
     }
-    plan_many(s, cs, l, r, t, out, &mut none, false)
+    with_memos::<PLACES>(s, cs, l, r, t, out)
 }

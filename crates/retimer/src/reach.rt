@@ -1,16 +1,17 @@
 // Whether a list of actions has a correction, is extensible, or is dead, by the sets of configurations that it can lead to.
-ghost use Rattle.std.specs.Prelude.{◌≡◌, ◌<◌, length, drop};
-ghost use Rattle.enforcement.specs.Automaton.{clocks};
-ghost use Rattle.enforcement.specs.Model.{prospect, compile};
+ghost use Rattle.std.specs.Prelude.{◌≡◌, ◌+◌, ◌*◌, ◌<◌, ◌≤◌, length, drop};
+ghost use Rattle.enforcement.specs.Limits.{max_count};
+ghost use Rattle.enforcement.specs.Automaton.{locations};
+ghost use Rattle.enforcement.specs.Model.{width, prospect, compile};
 ghost use Rattle.enforcement.specs.Monitor.{is_dead, is_lit};
 ghost use Rattle.retimer.specs.Readings.{located};
 ghost use Rattle.retimer.specs.Optimum.{LampAsked};
-ghost use Rattle.retimer.specs.Sets.{Empty};
+ghost use Rattle.retimer.specs.Sets.{height, Empty};
 ghost use Rattle.retimer.specs.Outlook.{outlook_of, front_of, Rated, RatedLast, SetAsked, Searched};
 
 use crate::outlook::Outlook;
-use crate::sets::play;
-use crate::{bytes, liveness, outlook, sets};
+use crate::sets::{SIZE, SIZE_OF_ONE_CLOCK, play};
+use crate::{bytes, liveness, outlook};
 
 // The outlook where all is played: by the set reached and, where that is dead, the lamp by the set before the last action.
 fn rate(s: &[u8], live: &[u8], set: &[u64], places: u16, next: &[u64], found: u16) -> Outlook
@@ -70,24 +71,13 @@ fn outlook_in(
     outlook_from(s, live, cs, 0, set, places, next)
 }
 
-// With one clock a set is small.
-fn outlook_one_clock(s: &[u8], live: &[u8], cs: &[u8], l: u8, r: [u8; 2]) -> Outlook
-    requires { ((LampAsked s.now live.now l r) × (1 < length cs.now)) × (clocks s.now ≡ 1) }
+// The same, in two sets of N numbers.
+fn outlook_sized<const N: usize>(s: &[u8], live: &[u8], cs: &[u8], l: u8, r: [u8; 2]) -> Outlook
+    requires { ((LampAsked s.now live.now l r) × (1 < length cs.now)) × ((locations s.now * height s.now ≤ N) × (N ≤ max_count * width)) }
     ensures { result ≡ outlook_of (prospect (compile s.now) cs.now (located l r)) (is_lit (compile s.now) (located l r) (front_of cs.now)) }
 {
-    let mut set = [0u64; sets::SIZE_OF_ONE_CLOCK];
-    let mut next = [0u64; sets::SIZE_OF_ONE_CLOCK];
-    let n = play::size(s);
-    outlook_in(s, live, cs, l, r, &mut set[..n], &mut next[..n])
-}
-
-// With two clocks it is not.
-fn outlook_two_clocks(s: &[u8], live: &[u8], cs: &[u8], l: u8, r: [u8; 2]) -> Outlook
-    requires { ((LampAsked s.now live.now l r) × (1 < length cs.now)) × (clocks s.now ≡ 1 → ⊥) }
-    ensures { result ≡ outlook_of (prospect (compile s.now) cs.now (located l r)) (is_lit (compile s.now) (located l r) (front_of cs.now)) }
-{
-    let mut set = [0u64; sets::SIZE];
-    let mut next = [0u64; sets::SIZE];
+    let mut set = [0u64; N];
+    let mut next = [0u64; N];
     let n = play::size(s);
     outlook_in(s, live, cs, l, r, &mut set[..n], &mut next[..n])
 }
@@ -100,10 +90,11 @@ pub fn outlook_of<'a>(s: &'a [u8], live: &'a [u8], cs: &[u8], l: u8, r: [u8; 2])
     if cs.len() == 1 {
         return outlook::single(s, live, cs[0], l, r);
     }
+    // With one clock a set is small; with two it is not.
     if s[1] == 1 {
-        return outlook_one_clock(s, live, cs, l, r);
+        return outlook_sized::<SIZE_OF_ONE_CLOCK>(s, live, cs, l, r);
     }
-    outlook_two_clocks(s, live, cs, l, r)
+    outlook_sized::<SIZE>(s, live, cs, l, r)
 }
 
 // Whether nothing can bring acceptance after these actions.

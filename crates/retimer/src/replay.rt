@@ -6,13 +6,14 @@ ghost use Rattle.retimer.specs.Replay.{call_at, ReplayRight};
 
 use crate::bytes;
 use crate::limits::{Monitor, State};
-use crate::sheet::Checked;
+use crate::reason::Reason;
+use crate::sheet::Counts;
 use crate::state::{Answer, Moved};
 
-// The check's answer, the last box, and the last answer; "none" where there was no call. After a refused load there is no box.
+// The check's answer, the last box, and the last answer; "none" where there was no call. After a refused load `Monitor::nothing` stands in the box's place, as `ReplayRight.no_box` promises.
 #[derive(Clone, Copy)]
 pub struct Replayed {
-    pub checked: Checked,
+    pub checked: Result<Counts, Reason>,
     pub monitor: Monitor,
     pub answer: Answer,
 }
@@ -38,26 +39,21 @@ pub fn replay(s: &[u8], loaded: u32, calls: &[u8]) -> Replayed
     let checked = start.checked;
     let b = start.monitor;
     let mut answer = Answer::Nothing;
-    match checked {
-        Checked::Accepted(_) => {}
-        Checked::Refused(_) => {
-            return Replayed {
-                checked,
-                monitor: b,
-                answer,
-            };
-        }
+    if checked.is_err() {
+        return Replayed {
+            checked,
+            monitor: b,
+            answer,
+        };
     }
     let size = b.size;
     let sheet: &[u8] = &b.bytes;
     let live: &[u8] = &b.live;
     let mut q = b.state;
-    let mut i: usize = 0;
-    while i + 5 <= calls.len() {
-        let r = call_at(&sheet[..size], live, q, calls, i);
+    for k in 0..calls.len() / 5 {
+        let r = call_at(&sheet[..size], live, q, calls, 5 * k);
         q = r.state;
         answer = r.answer;
-        i += 5;
     }
     Replayed {
         checked,

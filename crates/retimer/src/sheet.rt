@@ -19,56 +19,37 @@ pub struct Counts {
     pub accepting: u32,
 }
 
-// The answer of the check: the figures, or why the sheet or its loading date is refused.
-#[derive(Clone, Copy)]
-pub enum Checked {
-    Accepted(Counts),
-    Refused(Reason),
-}
-
 // I-1: the number of bytes.
+#[tactic(auto, unfolding(enforcement::specs::Loading::size_passes))]
 fn size_passes(s: &[u8]) -> bool
     ensures { result ≡ size_passes s.now }
 {
-    if s.len() < 6 {
-        return false;
-    }
-    s.len() <= Monitor::SIZE
+    6 <= s.len() && s.len() <= Monitor::SIZE
 }
 
 // Whether a count lies from 1 to the largest.
 fn is_count(x: u8, most: usize) -> bool
     ensures { result ≡ leb 1 x && leb x most }
 {
-    if x < 1 {
-        return false;
-    }
-    bytes::wide(x) <= most
+    1 <= x && usize::from(x) <= most
 }
 
 // I-2: locations, clocks and actions.
+#[tactic(auto, unfolding(enforcement::specs::Loading::header_passes))]
 fn header_passes(s: &[u8]) -> bool
     requires { 6 ≤ length s.now }
     ensures { result ≡ header_passes s.now }
 {
-    if !is_count(s[0], Monitor::COUNT) {
-        return false;
-    }
-    if !is_count(s[1], 2) {
-        return false;
-    }
-    is_count(s[2], Monitor::COUNT)
+    is_count(s[0], Monitor::COUNT) && is_count(s[1], 2) && is_count(s[2], Monitor::COUNT)
 }
 
 // I-3: the initial location, and no accepting bit beyond the locations.
+#[tactic(auto, using(crate::proofs::SheetLaws::shifted), unfolding(enforcement::specs::Loading::initial_passes))]
 fn initial_passes(s: &[u8]) -> bool
     requires { Headed s.now }
     ensures { result ≡ initial_passes s.now }
 {
-    if s[0] <= s[3] {
-        return false;
-    }
-    bytes::word_at(s, 4) < 1 << bytes::wide(s[0])
+    s[3] < s[0] && bytes::word_at(s, 4) < 1 << usize::from(s[0])
 }
 
 // Where the transitions begin, after the header and the pairs.
@@ -76,7 +57,7 @@ fn first_place(s: &[u8]) -> usize
     requires { 6 ≤ length s.now }
     ensures { result ≡ 6 + 4 * locations s.now }
 {
-    6 + 4 * bytes::wide(s[0])
+    6 + 4 * usize::from(s[0])
 }
 
 // Each pair begins where the one before it ends, and holds whole transitions; the last ends the sheet.
@@ -84,10 +65,9 @@ fn pairs_pass(s: &[u8]) -> bool
     requires { (Headed s.now) × (6 + 4 * locations s.now ≤ length s.now) }
     ensures { result ≡ pairs_pass s.now (locations s.now) 0 (6 + 4 * locations s.now) }
 {
-    let count = bytes::wide(s[0]);
+    let count = usize::from(s[0]);
     let mut end = first_place(s);
-    let mut l: usize = 0;
-    while l < count {
+    for l in 0..count {
         if bytes::word_at(s, 6 + 4 * l) != end {
             return false;
         }
@@ -96,12 +76,12 @@ fn pairs_pass(s: &[u8]) -> bool
             return false;
         }
         end += size;
-        l += 1;
     }
     end == s.len()
 }
 
 // How many transitions there are, where the layout is right.
+#[tactic(auto, using(enforcement::proofs::Pairs::layout_total))]
 fn transition_count(s: &[u8]) -> usize
     requires { LaidOut s.now }
     ensures { result ≡ length (all_transitions s.now) }
@@ -110,33 +90,19 @@ fn transition_count(s: &[u8]) -> usize
 }
 
 // I-4: the pairs are there and in place, and there are not too many transitions.
+#[tactic(auto, using(crate::proofs::SheetLaws::laid_out), unfolding(enforcement::specs::Loading::layout_passes))]
 fn layout_passes(s: &[u8]) -> bool
     requires { Headed s.now }
     ensures { result ≡ layout_passes s.now }
 {
-    if s.len() < first_place(s) {
-        return false;
-    }
-    if !pairs_pass(s) {
-        return false;
-    }
-    transition_count(s) <= Monitor::TRANSITIONS
+    first_place(s) <= s.len() && pairs_pass(s) && transition_count(s) <= Monitor::TRANSITIONS
 }
 
-// A low of 0 to the largest bound, a high of the same or 255 for none, in order.
+// A low of 0 to the largest bound, a high of the same or 255, the sheet's byte for none, in order.
 fn bounds_pass(low: u8, high: u8) -> bool
     ensures { result ≡ bounds_pass low high }
 {
-    if Monitor::BOUND < low {
-        return false;
-    }
-    if high == 255 {
-        return true;
-    }
-    if Monitor::BOUND < high {
-        return false;
-    }
-    low <= high
+    low <= Monitor::BOUND && (high == 255 || high <= Monitor::BOUND && low <= high)
 }
 
 // With one clock, clock 2 has no bounds and is not reset.
@@ -144,13 +110,7 @@ fn one_clock_passes(s: &[u8], p: usize) -> bool
     requires { p + 7 ≤ length s.now }
     ensures { result ≡ one_clock_passes (transition_at s.now p) }
 {
-    if s[p + 5] != 0 {
-        return false;
-    }
-    if s[p + 6] != 255 {
-        return false;
-    }
-    s[p + 2] / 2 % 2 != 1
+    s[p + 5] == 0 && s[p + 6] == 255 && s[p + 2] / 2 % 2 != 1
 }
 
 // Nothing is asked of clock 2 where there are two clocks.
@@ -158,10 +118,7 @@ fn clocks_pass(s: &[u8], p: usize) -> bool
     requires { (6 ≤ length s.now) × (p + 7 ≤ length s.now) }
     ensures { result ≡ clocks_pass s.now (transition_at s.now p) }
 {
-    if s[1] != 1 {
-        return true;
-    }
-    one_clock_passes(s, p)
+    s[1] != 1 || one_clock_passes(s, p)
 }
 
 // The action, the target and the reset set are in range.
@@ -169,13 +126,7 @@ fn names_pass(s: &[u8], p: usize) -> bool
     requires { (6 ≤ length s.now) × (p + 7 ≤ length s.now) }
     ensures { result ≡ names_pass s.now (transition_at s.now p) }
 {
-    if s[2] <= s[p] {
-        return false;
-    }
-    if s[0] <= s[p + 1] {
-        return false;
-    }
-    s[p + 2] <= 3
+    s[p] < s[2] && s[p + 1] < s[0] && s[p + 2] <= 3
 }
 
 // The bounds of both clocks.
@@ -183,24 +134,16 @@ fn guards_pass(s: &[u8], p: usize) -> bool
     requires { p + 7 ≤ length s.now }
     ensures { result ≡ guards_pass (transition_at s.now p) }
 {
-    if !bounds_pass(s[p + 3], s[p + 4]) {
-        return false;
-    }
-    bounds_pass(s[p + 5], s[p + 6])
+    bounds_pass(s[p + 3], s[p + 4]) && bounds_pass(s[p + 5], s[p + 6])
 }
 
 // The fields of the transition at a place are in range.
+#[tactic(auto, unfolding(enforcement::specs::Loading::fits_up_to))]
 fn fits(s: &[u8], p: usize) -> bool
     requires { (6 ≤ length s.now) × (p + 7 ≤ length s.now) }
     ensures { result ≡ fits s.now (transition_at s.now p) }
 {
-    if !names_pass(s, p) {
-        return false;
-    }
-    if !guards_pass(s, p) {
-        return false;
-    }
-    clocks_pass(s, p)
+    names_pass(s, p) && guards_pass(s, p) && clocks_pass(s, p)
 }
 
 // I-5: the fields of every transition.
@@ -208,14 +151,12 @@ fn all_fit(s: &[u8]) -> bool
     requires { LaidOut s.now }
     ensures { result ≡ all_fit s.now (all_transitions s.now) }
 {
-    let mut p = first_place(s);
-    let mut left = transition_count(s);
-    while 0 < left {
-        if !fits(s, p) {
+    let first = first_place(s);
+    let n = transition_count(s);
+    for k in 0..n {
+        if !fits(s, first + 7 * k) {
             return false;
         }
-        p += 7;
-        left -= 1;
     }
     true
 }
@@ -224,24 +165,18 @@ fn all_fit(s: &[u8]) -> bool
 fn meet(low: u8, high: u8, from: u8, to: u8) -> bool
     ensures { result ≡ leb low to && leb from high }
 {
-    if to < low {
-        return false;
-    }
-    from <= high
+    low <= to && from <= high
 }
 
 // The transitions at two places have one action, and some readings satisfy both.
+#[tactic(auto, unfolding(enforcement::specs::Loading::overlap))]
 fn overlap(s: &[u8], p: usize, q: usize) -> bool
     requires { (p + 7 ≤ length s.now) × (q + 7 ≤ length s.now) }
     ensures { result ≡ overlap (transition_at s.now p) (transition_at s.now q) }
 {
-    if s[p] != s[q] {
-        return false;
-    }
-    if !meet(s[p + 3], s[p + 4], s[q + 3], s[q + 4]) {
-        return false;
-    }
-    meet(s[p + 5], s[p + 6], s[q + 5], s[q + 6])
+    s[p] == s[q]
+        && meet(s[p + 3], s[p + 4], s[q + 3], s[q + 4])
+        && meet(s[p + 5], s[p + 6], s[q + 5], s[q + 6])
 }
 
 // The transition at p overlaps none of the n after it.
@@ -249,14 +184,11 @@ fn overlaps_none(s: &[u8], p: usize, n: usize) -> bool
     requires { p + 7 + 7 * n ≤ length s.now }
     ensures { result ≡ overlaps_none (transition_at s.now p) (transitions_from s.now n (p + 7)) }
 {
-    let mut q = p + 7;
-    let mut ahead = n;
-    while 0 < ahead {
-        if overlap(s, p, q) {
+    let first = p + 7;
+    for k in 0..n {
+        if overlap(s, p, first + 7 * k) {
             return false;
         }
-        q += 7;
-        ahead -= 1;
     }
     true
 }
@@ -266,14 +198,10 @@ fn disjoint(s: &[u8], first: usize, n: usize) -> bool
     requires { first + 7 * n ≤ length s.now }
     ensures { result ≡ disjoint (transitions_from s.now n first) }
 {
-    let mut p = first;
-    let mut left = n;
-    while 0 < left {
-        if !overlaps_none(s, p, left - 1) {
+    for k in 0..n {
+        if !overlaps_none(s, first + 7 * k, n - (k + 1)) {
             return false;
         }
-        p += 7;
-        left -= 1;
     }
     true
 }
@@ -283,15 +211,13 @@ fn disjoint_over(s: &[u8]) -> bool
     requires { LaidOut s.now }
     ensures { result ≡ disjoint_over s.now (locations s.now) 0 }
 {
-    let count = bytes::wide(s[0]);
-    let mut l: usize = 0;
-    while l < count {
+    let count = usize::from(s[0]);
+    for l in 0..count {
         let first = bytes::word_at(s, 6 + 4 * l);
         let n = bytes::word_at(s, 8 + 4 * l) / 7;
         if !disjoint(s, first, n) {
             return false;
         }
-        l += 1;
     }
     true
 }
@@ -318,29 +244,30 @@ fn date_passes(loaded: u32) -> bool
 }
 
 // The counts, or the first reason to refuse the sheet at that date.
-pub fn check(s: &[u8], loaded: u32) -> Checked
+#[tactic(auto, using(crate::proofs::SheetLaws::size_fits, crate::proofs::SheetLaws::headed, crate::proofs::SheetLaws::layout_passed), unfolding(enforcement::specs::Loading::check_up_to))]
+pub fn check(s: &[u8], loaded: u32) -> Result<Counts, Reason>
     ensures { checked_of result ≡ check s.now loaded }
 {
     if !size_passes(s) {
-        return Checked::Refused(Reason::I1);
+        return Err(Reason::I1);
     }
     if !header_passes(s) {
-        return Checked::Refused(Reason::I2);
+        return Err(Reason::I2);
     }
     if !initial_passes(s) {
-        return Checked::Refused(Reason::I3);
+        return Err(Reason::I3);
     }
     if !layout_passes(s) {
-        return Checked::Refused(Reason::I4);
+        return Err(Reason::I4);
     }
     if !all_fit(s) {
-        return Checked::Refused(Reason::I5);
+        return Err(Reason::I5);
     }
     if !disjoint_over(s) {
-        return Checked::Refused(Reason::I6);
+        return Err(Reason::I6);
     }
     if !date_passes(loaded) {
-        return Checked::Refused(Reason::I8);
+        return Err(Reason::I8);
     }
-    Checked::Accepted(figures(s))
+    Ok(figures(s))
 }

@@ -12,7 +12,7 @@ use crate::outlook::Outlook;
 use crate::reason::Reason;
 use crate::{clocks, lamp, lists, optimum, outlook, reach};
 
-// What a call answers.
+// What a call answers, by the cases of document 01's outcomes, which `outcome_of` reads.
 #[derive(Clone, Copy)]
 pub enum Answer {
     Scheduled { count: u8, last: u32 },
@@ -36,10 +36,7 @@ pub struct Moved {
 fn earliest(last: u32, t: u32) -> u32
     ensures { result ≡ max t last }
 {
-    if t < last {
-        return last;
-    }
-    t
+    t.max(last)
 }
 
 // An offer with the next number.
@@ -187,10 +184,10 @@ impl State {
         requires { CorrectAsked s.now live.now self t cs start here }
         ensures { Done s.now live.now self (decided_of s.now self (last_action self cs) t) result }
     {
-        if Monitor::SCHEDULED - self.planned < self.held + 1 {
-            if start <= Monitor::LATEST - Monitor::LONGEST {
-                return self.refuse(Reason::S3);
-            }
+        if Monitor::SCHEDULED - self.planned < self.held + 1
+            && start <= Monitor::LATEST - Monitor::LONGEST
+        {
+            return self.refuse(Reason::S3);
         }
         self.date_and_place(s, live, t, cs, start, here)
     }

@@ -13,14 +13,13 @@ pub fn of(s: &[u8], c: u8, l: usize) -> u16
     ensures { Gathered s.now (EntersFrom s.now c l) result }
 {
     let pair = 6 + 4 * l;
-    let mut p = bytes::word_at(s, pair);
-    let end = p + bytes::word_at(s, pair + 2);
+    let first = bytes::word_at(s, pair);
+    let end = first + bytes::word_at(s, pair + 2);
     let mut found = 0u16;
-    while p < end {
+    for p in (first..end).step_by(7) {
         if s[p] == c {
-            found = locations::with(found, bytes::wide(s[p + 1]));
+            found = locations::with(found, usize::from(s[p + 1]));
         }
-        p += 7;
     }
     found
 }
@@ -30,14 +29,11 @@ pub fn of_all(s: &[u8], c: u8, places: u16) -> u16
     requires { (WellFormed s.now) × (InSheet s.now places) }
     ensures { Gathered s.now (EntersFromAny s.now c places) result }
 {
-    let count = bytes::wide(s[0]);
     let mut found = 0u16;
-    let mut l = 0usize;
-    while l < count {
+    for l in 0..usize::from(s[0]) {
         if locations::has(places, l) {
             found = found | of(s, c, l);
         }
-        l += 1;
     }
     found
 }

@@ -1,5 +1,5 @@
 // The waits at which a transition is enabled: an interval, straight from the bytes.
-ghost use Rattle.std.specs.Prelude.{◌≡◌, ◌+◌, ◌-◌, ◌≤◌, min, max, length};
+ghost use Rattle.std.specs.Prelude.{◌≡◌, ◌+◌, ◌-◌, ◌≤◌, length};
 ghost use Rattle.enforcement.specs.Automaton.{transition_at};
 ghost use Rattle.enforcement.specs.Model.{top};
 ghost use Rattle.retimer.specs.Waits.{saturation, first_wait, end_of, end_wait};
@@ -13,20 +13,6 @@ fn up_to(low: u8, x: u8) -> u8
     if x < low { low - x } else { 0 }
 }
 
-// The larger of two numbers.
-pub fn larger(a: u8, b: u8) -> u8
-    ensures { result ≡ max a b }
-{
-    if a < b { b } else { a }
-}
-
-// The smaller.
-pub fn smaller(a: u8, b: u8) -> u8
-    ensures { result ≡ min a b }
-{
-    if a < b { a } else { b }
-}
-
 // One more than the last wait, at most cap, after which a reading is at most high; 0 if it is above already. The high 255 is further from every reading up to saturation than any cap.
 fn ends(high: u8, x: u8, cap: u8) -> u8
     requires { cap ≤ top }
@@ -35,7 +21,7 @@ fn ends(high: u8, x: u8, cap: u8) -> u8
     if high < x {
         return 0;
     }
-    smaller(high - x, cap) + 1
+    (high - x).min(cap) + 1
 }
 
 // The wait from which on both readings are saturated.
@@ -43,7 +29,7 @@ fn saturation(x: u8, y: u8) -> u8
     requires { (x ≤ top) × (y ≤ top) }
     ensures { result ≡ saturation x y }
 {
-    Monitor::TOP - smaller(x, y)
+    Monitor::TOP - x.min(y)
 }
 
 // The first wait after which the transition at p has both lows behind it.
@@ -51,7 +37,7 @@ pub fn first_wait(s: &[u8], p: usize, x: u8, y: u8) -> u8
     requires { p + 7 ≤ length s.now }
     ensures { result ≡ first_wait (transition_at s.now p) x y }
 {
-    larger(up_to(s[p + 3], x), up_to(s[p + 5], y))
+    up_to(s[p + 3], x).max(up_to(s[p + 5], y))
 }
 
 // One more than the last wait, up to saturation, at which both highs hold.
@@ -60,5 +46,5 @@ pub fn end_wait(s: &[u8], p: usize, x: u8, y: u8) -> u8
     ensures { result ≡ end_wait (transition_at s.now p) x y }
 {
     let cap = saturation(x, y);
-    smaller(ends(s[p + 4], x, cap), ends(s[p + 6], y, cap))
+    ends(s[p + 4], x, cap).min(ends(s[p + 6], y, cap))
 }

@@ -25,12 +25,6 @@ use Rattle.retimer.proofs.sets.Tables.{apart}
 -- ---- The row that leads into the target
 
 module _ (t : List ℕ) (target resets y k : ℕ) (e : k ≡ cond (eqb (resets / 2 % 2) 1) 0 y) where
-  pub leading_spread : (v : ℕ) → Spread (get_or t (target * width + k) 0) v → resets % 2 ≡ 1 → Leading t target resets y v
-  leading_spread v s h = record { bits = λ x g. s.bits x g ∙ rw (bit_lowest resets, eq-eqb (resets % 2) 1 h, e) refl }
-
-  pub leading_row : (resets % 2 ≡ 1 → ⊥) → Leading t target resets y (get_or t (target * width + k) 0)
-  leading_row h = record { bits = λ x g. rw (bit_lowest resets, ne_eqb (resets % 2) 1 h, e) refl }
-
   pub kept_fits : y ≤ top → k ≤ top
   kept_fits h = omega (arith, cond_most (eqb (resets / 2 % 2) 1) y top h)
 

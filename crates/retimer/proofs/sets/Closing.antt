@@ -150,13 +150,3 @@ module _ {t u : List ℕ} {l y r v : ℕ} (sized : length t ≡ all_rows) (in_ra
         row_all = λ x h e. now_all x h (subst (Waits t l x) z e);
         grows = omega (arith, slack_grows u at now (or_grows (get_or u at 0) v), f.grows);
       }
-
-pub closing_ended : {t u : List ℕ} {l y r : ℕ} (from : ℕ) → Closing t u l y r → y ≤ from → min from width ≤ y → WaitsAdded t u l from
-closing_ended from f h g = record {
-  sized = f.sized;
-  others = f.others;
-  only = λ x k p q o e. f.only x k p (omega arith) o e;
-  all = λ x k p q o e. f.all x k p (omega arith) o e;
-  below = λ k p o. f.below k (omega arith);
-  grows = f.grows;
-}

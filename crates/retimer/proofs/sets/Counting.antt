@@ -33,9 +33,6 @@ pub record Storing (counts new : List ℕ) (l y gaps left : ℕ) : Type 0 where
   pub here : (x : ℕ) → In x gaps → (In x left → ⊥) → get_or new (place l x y) 0 ≡ width - position x y
   pub other : (j : ℕ) → ((x : ℕ) → In x gaps → j ≡ place l x y → ⊥) → get_or new j 0 ≡ get_or counts j 0
 
-pub storing_begun : (counts : List ℕ) (l y gaps : ℕ) → gaps < 2 ^ width → Storing counts counts l y gaps gaps
-storing_begun counts l y gaps h = record { sized = refl; small = h; within = λ x m. m; here = λ x m n. absurd (n m); other = λ j n. refl }
-
 module _ (counts new : List ℕ) (l y gaps left : ℕ) (f : Storing counts new l y gaps left) (p : 0 < left) where
   abbrev t : ℕ
   t = count_trailing_zeros 64 left
@@ -208,9 +205,6 @@ module _ {rows counts new u : List ℕ} {l from y before v : ℕ} (closed : Clos
     done = up_to;
     rest = later;
   }
-
-pub rows_counted : {rows counts new : List ℕ} {l from y before : ℕ} → Counting rows counts new l from y before → top ≤ y → RowsCounted rows counts new l from
-rows_counted f h = record { sized = f.sized; rest = f.others; right = λ x k p q o. f.done x k p q (omega arith) }
 
 -- ---- The saturated row
 

@@ -1,7 +1,8 @@
 -- Laws of what a transition adds to rows, one row at a time, and of unions of rows.
 -- Assumes nothing.
 use mathlib.Core.Path.{◌≡◌, refl, ap, ◌∙◌}
-use mathlib.Core.Bool.{Bool, true, false}
+use mathlib.Core.Bool.{Bool, true, false, not}
+use mir.Val.{bool_byte}
 use mathlib.Core.List.{List}
 use mathlib.Core.Logic.{◌⊎◌, inl, inr, ⊎_elim, ◌↔◌}
 use Prim.Native.Nat.{ℕ, ◌+◌, ◌^◌, ◌≤◌, ◌<◌}
@@ -15,8 +16,9 @@ use lib.Pow.{pow_pos}
 use borrow.Author.Tests.{eqb-true, eqb-false}
 use Rattle.enforcement.specs.Model.{width}
 use Rattle.retimer.specs.Row.{In, Flag}
-use Rattle.retimer.specs.Sets.{Narrow, Member, United, Joined, Kept, Reset}
+use Rattle.retimer.specs.Sets.{Narrow, Member, United, Joined, Kept, Reset, Gains}
 use Rattle.enforcement.proofs.Bits.{none_in, in_or, in_and, power_in, some_in}
+use Rattle.retimer.proofs.sets.Tables.{same_or, lt_or}
 use Rattle.retimer.proofs.sets.Waiting.{in_same, member_at, narrow_set}
 
 -- ---- A union
@@ -24,9 +26,6 @@ use Rattle.retimer.proofs.sets.Waiting.{in_same, member_at, narrow_set}
 -- any has the readings of the rows from a up to i.
 abbrev pub Uniting : List ℕ → ℕ → ℕ → ℕ → Type 0
 Uniting src a i any = (x : ℕ) → In x any ↔ ((j : ℕ) × (a ≤ j) × (j < i) × Member src x j)
-
-pub uniting_begun : (src : List ℕ) (a : ℕ) → Uniting src a a 0
-uniting_begun src a x = (λ n. absurd (none_in x n), λ u. absurd (omega (arith, u.1, u.2)))
 
 pub uniting_more : (src : List ℕ) (a i any : ℕ) → a ≤ i → Uniting src a i any → Uniting src a (i + 1) (bit_or any (get_or src i 0))
 uniting_more src a i any l h x = (
@@ -96,10 +95,48 @@ reset_in src cols i v f x = (
   λ u. (f.right x).1 (u.0, (u.1.0, (in_and (get_or src i 0) cols u.1.0).1 (u.1.1, u.1.2))),
 )
 
+-- ---- Rows that gain what is made of readings
+
+module _ (src out : List ℕ) (cols a : ℕ) (P : ℕ → ℕ → Type 0) where
+  pub gains_more : (new : List ℕ) (i v : ℕ) → a ≤ i → i < length out → Gains src out new cols a i P → P (bit_and (get_or src i 0) cols) v → Gains src out (set new i (bit_or (get_or new i 0) v)) cols a (i + 1) P
+  gains_more new i v g k h p = record {
+    sized = length-set new i w ∙ h.sized;
+    gained = λ j l m. same_or j i (λ e. rw e (v, p, get_or-set_same new i w 0 (omega (arith, h.sized)) ∙ ap (λ (n : ℕ). bit_or n v) (h.rest i (inr (omega arith))))) (λ e. let u = h.gained j l (omega arith) in (u.0, u.1, get_or-set_other new i j w 0 e ∙ u.2));
+    rest = λ j l. get_or-set_other new i j w 0 (λ e. ⊎_elim (λ m. omega arith) (λ m. omega arith) l) ∙ h.rest j (⊎_elim inl (λ m. inr (omega arith)) l);
+  }
+    where
+      w : ℕ
+      w = bit_or (get_or new i 0) v
+
+-- What is made of a row's readings has what Q says.
+pub joined : {src out new : List ℕ} {cols a b : ℕ} {P Q : ℕ → ℕ → Type 0} → Narrow out → Gains src out new cols a b P → ((i v : ℕ) → P (bit_and (get_or src i 0) cols) v → (v < 2 ^ width) × ((x : ℕ) → In x v ↔ Q x i)) → Joined out new Q a b
+joined {src} {out} {new} {cols} {a} {b} {P} {Q} h g f = record {
+  sized = g.sized;
+  narrow = λ i. lt_or i a (λ z. rw (g.rest i (inl z)) (h i)) (λ z. lt_or i b (λ y. let u = g.gained i z y in rw u.2 (or_lt width (get_or out i 0) u.0 (h i) (f i u.0 u.1).0)) (λ y. rw (g.rest i (inr y)) (h i)));
+  right = λ x i. lt_or i a (λ z. outside x i (inl z)) (λ z. lt_or i b (λ y. here x i z y) (λ y. outside x i (inr y)));
+}
+  where
+    outside : (x i : ℕ) → (i < a) ⊎ (b ≤ i) → Member new x i ↔ (Member out x i ⊎ ((a ≤ i) × (i < b) × Q x i))
+    outside x i z = rw (g.rest i z) (inl, λ u. ⊎_elim (λ n. n) (λ n. absurd (⊎_elim (λ y. omega (arith, n.0)) (λ y. omega (arith, n.1)) z)) u)
+
+    here : (x i : ℕ) → a ≤ i → i < b → Member new x i ↔ (Member out x i ⊎ ((a ≤ i) × (i < b) × Q x i))
+    here x i z y =
+        let u = g.gained i z y in
+        let q = (f i u.0 u.1).1 x in
+        let o = in_or (get_or out i 0) u.0 x in
+        rw u.2 (λ n. ⊎_elim inl (λ m. inr (z, y, q.0 m)) (o.0 n), λ n. o.1 (⊎_elim inl (λ w. inr (q.1 w.2)) n))
+
 -- ---- A flag
 
-pub flag_none : (e : ℕ) → e ≡ 0 → Flag e 0
+flag_none : (e : ℕ) → e ≡ 0 → Flag e 0
 flag_none e z = record { small = pow_pos width; right = λ x. (λ n. absurd (none_in x n), λ u. absurd (none_in u.1.0 (in_same u.1.0 z u.1.1))) }
 
-pub flag_some : (e : ℕ) → e < 2 ^ 64 → (e ≡ 0 → ⊥) → Flag e 1
+flag_some : (e : ℕ) → e < 2 ^ 64 → (e ≡ 0 → ⊥) → Flag e 1
 flag_some e h z = record { small = omega arith; right = λ x. (λ n. ((power_in 0 x).0 n, some_in 64 e h z), λ u. (power_in 0 x).1 u.0) }
+
+pub flagged : {e : ℕ} → e < 2 ^ 64 → Flag e (bool_byte (not (eqb e 0)))
+flagged {e} h = go (eqb e 0) refl
+  where
+    go : (b : Bool) → eqb e 0 ≡ b → Flag e (bool_byte (not b))
+    go true z = flag_none e (eqb-true e 0 z)
+    go false z = flag_some e h (eqb-false e 0 z)

@@ -69,9 +69,6 @@ module _ (counts : List ℕ) (l y row left : ℕ) (m : Left counts l y row left)
 
 -- ---- The saturated row
 
-pub saturated_none : (counts : List ℕ) (l row : ℕ) → row ≡ 0 → (false ≡ true) ↔ MeetsRow counts l top row
-saturated_none counts l row e = (λ d. absurd (false≢true d), λ w. absurd (none_in w.0 (sym (ap (λ (n : ℕ). bit n w.0) e) ∙ w.1)))
-
 module _ (counts : List ℕ) (l row : ℕ) (a : RowAsked counts l top row) (some : row ≡ 0 → ⊥) where
   abbrev t : ℕ
   t = count_trailing_zeros 64 row
@@ -114,9 +111,6 @@ module _ (counts : List ℕ) (l : ℕ) (set : List ℕ) (h i a : ℕ) (s : RowsA
   before_more = record { small = s.narrow (a + i); right = λ z m. (i, refl, sym (ap (λ (n : ℕ). bit n z) row_is) ∙ m) }
 
   module _ (before v : ℕ) (fresh : Fresh (get_or set (a + i) 0) before v) (less : i < h - 1) where
-    pub row_found : MeetsRow counts l (width - h + i) v → MeetsAt counts l set h
-    row_found w = (w.0, i, omega arith, sym (ap (λ (n : ℕ). bit n w.0) row_is) ∙ ((fresh.right w.0).0 w.1).0, w.2)
-
     pub row_none : Before set l h i before → NoneMet counts l set h i → (MeetsRow counts l (width - h + i) v → ⊥) → NoneMet counts l set h (i + 1)
     row_none b n z x j m held has = go (eqb j i) refl
       where
@@ -142,33 +136,7 @@ module _ (counts : List ℕ) (l : ℕ) (set : List ℕ) (h i a : ℕ) (s : RowsA
             z (x, (fresh.right x).1 (ap (λ (n : ℕ). bit n x) row_is ∙ here r, earlier r), has_here r)
         go false q = let r = eqb-false j i q in n x j (omega arith) held has
 
-  -- What is left is the last row.
-  pub rows_ended : (b : Bool) → h - 1 ≤ i → NoneMet counts l set h i → (b ≡ true) ↔ MeetsRow counts l top (get_or set (a + (h - 1)) 0) → (b ≡ true) ↔ MeetsAt counts l set h
-  rows_ended b o n m = (λ d. let w = m.0 d in (w.0, h - 1, omega (arith, s.some), sym (ap (λ (n : ℕ). bit n w.0) last_is) ∙ w.1, ap (counted counts l w.0) saturated ∙ w.2), λ w. m.1 (go w.0 w.1 w.2 w.3 w.4 (ltb w.1 (h - 1)) refl))
-    where
-      last_is : get_or set (a + (h - 1)) 0 ≡ get_or set (l * h + (h - 1)) 0
-      last_is = ap (λ (n : ℕ). get_or set (n + (h - 1)) 0) e
-
-      saturated : second h (h - 1) ≡ top
-      saturated = omega (arith, s.some, s.most)
-
-      go : (x j : ℕ) → j < h → Marked h set l x j → counted counts l x (second h j) ≡ true → (c : Bool) → ltb j (h - 1) ≡ c → MeetsRow counts l top (get_or set (a + (h - 1)) 0)
-      go x j less held has true q = absurd (n x j (omega (arith, ltb-true j (h - 1) q)) held has)
-      go x j less held has false q =
-          let r : j ≡ h - 1 = omega (arith, ltb-false j (h - 1) q) in
-          (x, ap (λ (n : ℕ). bit n x) last_is ∙ sym (ap (λ (n : ℕ). bit (get_or set (l * h + n) 0) x) r) ∙ held, sym (ap (counted counts l x) (ap (second h) r ∙ saturated)) ∙ has)
-
 -- ---- The locations
-
--- There are rows for one of the first n locations.
-pub asked_at : {counts set : List ℕ} {n h : ℕ} (l : ℕ) → RowsAsked counts set n h → l < n → RowsAsked counts set (l + 1) h
-asked_at {counts} {set} {n} {h} l s k = record {
-  counts_sized = s.counts_sized;
-  some = s.some;
-  most = s.most;
-  sized = let a : (l + 1) * h ≤ n * h = mul-le-mul_right h (omega arith) in omega (arith, s.sized);
-  narrow = s.narrow;
-}
 
 -- The counts have no member of the first n locations.
 abbrev pub NoneBelow : List ℕ → List ℕ → ℕ → ℕ → Type 0

@@ -6,14 +6,14 @@ use mathlib.Core.List.{List, ◌++◌}
 use Prim.Native.Nat.{ℕ, ◌+◌, ◌*◌, ◌^◌, ◌≤◌, ◌<◌, ◌-◌}
 use native.Mathlib.Omega.{arith}
 use native.Mathlib.Nat.{mul-le-mul_right, suc-mul}
-use lib.Dec.{eqb, ltb}
-use lib.ListN.{length, get_or, set, take, drop, length-set, length-drop, get_or-append, get_or-eq_default}
-use lib.Seq.{get_or-set_same, get_or-set_other, get_or-take, get_or-drop, get_or-append-add, length-take-le, take_at, drop_at}
+use lib.Dec.{ltb}
+use lib.ListN.{length, get_or, take, drop, length-drop, get_or-append, get_or-eq_default}
+use lib.Seq.{get_or-take, get_or-drop, get_or-append-add, length-take-le, take_at, drop_at}
 use lib.Pow.{pow_pos}
-use borrow.Author.Tests.{eqb-true, eqb-false, ltb-true, ltb-false}
+use borrow.Author.Tests.{ltb-true, ltb-false}
 use borrow.Rule.Slice.PartMut.{put_mid, same_len_mid}
 use Rattle.enforcement.specs.Model.{width}
-use Rattle.retimer.specs.Sets.{Narrow, Cleared}
+use Rattle.retimer.specs.Sets.{Narrow}
 
 -- ---- The place of a location's rows
 
@@ -86,15 +86,3 @@ put_other xs l h k inside e ys same m i less other = go (ltb m l) refl
     go : (c : Bool) → ltb m l ≡ c → get_or (put_mid (l * h) k xs ys) (m * h + i) 0 ≡ get_or xs (m * h + i) 0
     go true y = put_before xs (l * h) k inside ys same (m * h + i) (omega (arith, rows_end h (ltb-true m l y)))
     go false y = put_after xs (l * h) k inside ys same (m * h + i) (omega (arith, rows_end h {t = l} {u = m} (omega (arith, ltb-false m l y))))
-
--- ---- A list that is emptied
-
-pub cleared_none : (set : List ℕ) → Cleared set set 0
-cleared_none set = record { sized = refl; empty = λ j l. absurd (omega arith) }
-
-pub cleared_more : {old new : List ℕ} {i : ℕ} → i < length new → Cleared old new i → Cleared old (set new i 0) (i + 1)
-cleared_more {old} {new} {i} l h = record { sized = length-set new i 0 ∙ h.sized; empty = λ j k. go j k (eqb j i) refl }
-  where
-    go : (j : ℕ) → j < i + 1 → (b : Bool) → eqb j i ≡ b → get_or (set new i 0) j 0 ≡ 0
-    go j k true e = rw (eqb-true j i e, get_or-set_same new i 0 0 l) refl
-    go j k false e = let z = eqb-false j i e in get_or-set_other new i j 0 0 z ∙ h.empty j (omega arith)

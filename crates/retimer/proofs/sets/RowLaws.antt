@@ -59,9 +59,6 @@ tick_right row h = record {
 
 -- ---- From the lowest on
 
-pub upward_none : (row : ℕ) → row ≡ 0 → Upward row 0
-upward_none row e = record { small = pow_pos width; right = λ x. (λ m. absurd (none_in x m), λ u. absurd (none_in u.0 (sym (ap (λ (n : ℕ). bit n u.0) e) ∙ u.1))) }
-
 lowest_of : (row : ℕ) → row < 2 ^ width → (row ≡ 0 → ⊥) → Lowest row (count_trailing_zeros 64 row)
 lowest_of row h p = lowest_is 64 row (omega arith) (omega arith)
 
@@ -105,9 +102,6 @@ before_right r = record { bits = λ x h. bit_of_or ((r / 2 ^ 1) % 2 ^ top) (bit_
 pub spread_all : (r : ℕ) → r % 2 ≡ 1 → Spread r (2 ^ 64 - 1)
 spread_all r e = record { bits = λ x h. bit_ones 64 x (omega arith) ∙ sym (bit_lowest r ∙ eq-eqb (r % 2) 1 e) }
 
-pub spread_none : (r : ℕ) → (r % 2 ≡ 1 → ⊥) → Spread r 0
-spread_none r e = record { bits = λ x h. bit_none x ∙ sym (bit_lowest r ∙ ne_eqb (r % 2) 1 e) }
-
 -- ---- The gaps of a row
 
 -- Reading 0, and one more than each of the row.
@@ -140,9 +134,6 @@ module _ (row : ℕ) where
 
   size : (m : ℕ) × (count_leading_zeros 64 a + m ≡ 64) × (a < 2 ^ m) × (2 ^ m ≤ 2 * a + 1)
   size = leading_length 64 a (omega arith)
-
-  pub highest_fits : count_leading_zeros 64 a ≤ 64
-  highest_fits = omega (arith, size.1)
 
   at_highest : (x : ℕ) → size.0 ≡ x + 1 → In x a
   at_highest x e =

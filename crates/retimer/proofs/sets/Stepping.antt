@@ -113,9 +113,6 @@ module _ (s : Bytes) (c l : ℕ) (set nxt : List ℕ) (h k : ℕ) (loads : WellF
   part_sized : length (take k (drop (l * h) set)) ≡ height s
   part_sized = part_length set (l * h) k inside ∙ same ∙ e
 
-  pub wait_asked : (1 ≤ length (take k (drop (l * h) set))) × Narrow (take k (drop (l * h) set))
-  wait_asked = (omega (arith, part_sized, (height_most s).0), part_narrow set (l * h) k inside ws.narrow)
-
   -- A row of the part is one of the set.
   part_row : (i : ℕ) → i < height s → get_or (take k (drop (l * h) set)) i 0 ≡ get_or set (l * height s + i) 0
   part_row i m = part_at set (l * h) k inside i (omega arith) ∙ ap (λ (n : ℕ). get_or set (l * n + i) 0) e
@@ -129,12 +126,6 @@ module _ (s : Bytes) (c l : ℕ) (set nxt : List ℕ) (h k : ℕ) (loads : WellF
 
     back : take k (drop (l * h) put) ≡ out
     back = put_part set (l * h) k inside out out_same
-
-    pub put_fits : l * h + h ≤ length put
-    put_fits = omega (arith, put_length set (l * h) k inside out out_same, from_fits.0)
-
-    pub play_asked : Whole s nxt → Plays s (take k (drop (l * h) put)) nxt × (l < locations s)
-    play_asked wn = (rw back (record { loads = loads; source = w.sized ∙ part_sized; readings = w.narrow; target = wn }), known)
 
     moves : (t x i : ℕ) → i < height s → One (Leads c out t x i) (transitions s l) ↔ Moves s c set l t x i
     unfolding Bounded

@@ -4,9 +4,9 @@ ghost use Rattle.enforcement.specs.Automaton.{transition_at};
 ghost use Rattle.enforcement.specs.Loading.{Fits};
 ghost use Rattle.retimer.specs.Sets.{height, Columns};
 
+use crate::clocks;
 use crate::limits::Monitor;
 use crate::sets::row;
-use crate::{bytes, clocks};
 
 // How many rows a location has.
 pub fn height(s: &[u8]) -> usize
@@ -24,5 +24,5 @@ pub fn columns(s: &[u8], p: usize) -> u64
     requires { (p + 7 ≤ length s.now) × (Fits s.now (transition_at s.now p)) }
     ensures { Columns (transition_at s.now p) result }
 {
-    row::interval(bytes::wide(s[p + 3]), clocks::past(s[p + 4]))
+    row::interval(usize::from(s[p + 3]), clocks::past(s[p + 4]))
 }

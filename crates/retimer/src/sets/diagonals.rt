@@ -4,7 +4,6 @@ ghost use Rattle.enforcement.specs.Limits.{max_count};
 ghost use Rattle.enforcement.specs.Model.{top, width};
 ghost use Rattle.retimer.specs.Counts.{counts_size, diagonal, position, counted, Counted, Stored, LocationAsked, RowsCounted, LocationCounted, CountAsked};
 
-use crate::bytes;
 use crate::limits::Monitor;
 use crate::sets::{row, whole};
 
@@ -16,7 +15,7 @@ fn diagonal(x: u8, y: u8) -> usize
     if y == Monitor::TOP {
         return 0;
     }
-    bytes::wide(x + (Monitor::TOP - y))
+    usize::from(x + (Monitor::TOP - y))
 }
 
 // Their position on it.
@@ -27,10 +26,7 @@ fn position(x: u8, y: u8) -> u8
     if y == Monitor::TOP {
         return x;
     }
-    if y < x {
-        return y;
-    }
-    x
+    x.min(y)
 }
 
 // Whether the counts have a configuration.
@@ -38,8 +34,8 @@ pub fn has(counts: &[u8], l: u8, x: u8, y: u8) -> bool
     requires { ((length counts.now ≡ counts_size) × (l < max_count)) × ((x ≤ top) × (y ≤ top)) }
     ensures { result ≡ counted counts.now l x y }
 {
-    let i = bytes::wide(l) * Monitor::DIAGONALS + diagonal(x, y);
-    bytes::wide(position(x, y)) + bytes::wide(counts[i]) < Monitor::WIDTH
+    let i = usize::from(l) * Monitor::DIAGONALS + diagonal(x, y);
+    usize::from(position(x, y)) + usize::from(counts[i]) < Monitor::WIDTH
 }
 
 // Ends the diagonals of some readings beside the second reading y before them.
@@ -49,6 +45,7 @@ fn count_row(counts: &mut [u8], l: usize, y: usize, gaps: u64)
 {
     let base = l * Monitor::DIAGONALS;
     let second = y as u8;
+    // A walk over set bits counts no index: no plainer as a `for`.
     let mut left = gaps;
     while 0 < left {
         let x = u64::trailing_zeros(left) as u8;
@@ -64,13 +61,11 @@ fn count_rows(rows: &[u64], counts: &mut [u8], l: usize, from: usize)
     ensures { RowsCounted rows.now counts.old counts.new l from }
 {
     let base = l * Monitor::WIDTH;
-    let mut y = from;
     let mut before = u64::MAX;
-    while y < Monitor::TOP as usize {
+    for y in from..Monitor::TOP as usize {
         let row = rows[base + y];
         count_row(counts, l, y, row::gaps(row, before));
         before = row;
-        y += 1;
     }
 }
 
@@ -92,9 +87,7 @@ pub fn count(rows: &[u64], counts: &mut [u8], locations: usize, from: usize)
     requires { CountAsked rows.now counts.old locations from }
     ensures { Counted rows.now counts.new locations from }
 {
-    let mut l = 0;
-    while l < locations {
+    for l in 0..locations {
         count_location(rows, counts, l, from);
-        l += 1;
     }
 }

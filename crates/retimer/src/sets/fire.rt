@@ -3,8 +3,8 @@ ghost use Rattle.std.specs.Prelude.{◌≡◌, length};
 ghost use Rattle.enforcement.specs.Automaton.{transition_at};
 ghost use Rattle.retimer.specs.Sets.{Fires, Fired};
 
+use crate::clocks;
 use crate::sets::{bounds, rows};
-use crate::{bytes, clocks};
 
 // Takes a transition where locations have one row: there is one clock, and at most the first is reset.
 fn fire_row(s: &[u8], p: usize, src: &[u64], out: &mut [u64]) -> bool
@@ -30,7 +30,7 @@ pub fn fire(s: &[u8], p: usize, src: &[u64], out: &mut [u64]) -> bool
         return fire_row(s, p, src, out);
     }
     let cols = bounds::columns(s, p);
-    let a = bytes::wide(s[p + 5]);
+    let a = usize::from(s[p + 5]);
     let b = clocks::past(s[p + 6]);
     let set = s[p + 2];
     if set == 0 {

@@ -1,5 +1,5 @@
 // The configurations from which a transition or a wait leads into a set.
-ghost use Rattle.std.specs.Prelude.{◌≡◌, ◌+◌, ◌≤◌, ◌<◌, max, length};
+ghost use Rattle.std.specs.Prelude.{◌≡◌, ◌+◌, ◌≤◌, ◌<◌, length};
 ghost use Rattle.enforcement.specs.Limits.{max_count};
 ghost use Rattle.enforcement.specs.Automaton.{locations, transition_at};
 ghost use Rattle.enforcement.specs.Loading.{Fits};
@@ -8,7 +8,7 @@ ghost use Rattle.retimer.specs.Leading.{all_rows, leads, Leading, RowAdded, Tran
 
 use crate::limits::Monitor;
 use crate::sets::{bounds, row};
-use crate::{bytes, clocks, lookup};
+use crate::{clocks, lookup};
 
 // The first readings with which resets lead into the target's rows, at a second reading.
 fn leading(rows: &[u64], target: usize, resets: u8, y: usize) -> u64
@@ -31,7 +31,7 @@ pub fn leads_saturated(s: &[u8], rows: &[u64], p: usize) -> bool
     if !lookup::enabled(s, p, Monitor::TOP, Monitor::TOP) {
         return false;
     }
-    let row = leading(rows, bytes::wide(s[p + 1]), s[p + 2], Monitor::TOP as usize);
+    let row = leading(rows, usize::from(s[p + 1]), s[p + 2], Monitor::TOP as usize);
     (row >> Monitor::TOP) % 2 == 1
 }
 
@@ -46,13 +46,6 @@ fn add_row(rows: &mut [u64], i: usize, more: u64) -> bool
     next != row
 }
 
-// The larger of two numbers.
-fn larger(a: usize, b: usize) -> usize
-    ensures { result ≡ max a b }
-{
-    if a < b { b } else { a }
-}
-
 // Adds to a location's rows the configurations from which the transition at a place leads into the rows; answers whether the rows are others than before.
 // Rows of second readings below `from` stay as they are. The highest comes first, so that row 0, to which a reset of the second clock leads, is still as it was.
 pub fn add_transition(s: &[u8], rows: &mut [u64], l: usize, p: usize, from: usize) -> bool
@@ -60,13 +53,11 @@ pub fn add_transition(s: &[u8], rows: &mut [u64], l: usize, p: usize, from: usiz
     ensures { TransitionAdded rows.old rows.new l from (transition_at s.now p) result }
 {
     let allowed = bounds::columns(s, p);
-    let target = bytes::wide(s[p + 1]);
+    let target = usize::from(s[p + 1]);
     let resets = s[p + 2];
-    let least = larger(from, bytes::wide(s[p + 5]));
-    let mut y = clocks::past(s[p + 6]);
+    let least = from.max(usize::from(s[p + 5]));
     let mut changed = false;
-    while least < y {
-        y -= 1;
+    for y in (least..clocks::past(s[p + 6])).rev() {
         let more = allowed & leading(rows, target, resets, y);
         if add_row(rows, l * Monitor::WIDTH + y, more) {
             changed = true;
@@ -82,10 +73,8 @@ pub fn close(rows: &mut [u64], l: usize, from: usize)
     ensures { WaitsAdded rows.old rows.new l from }
 {
     let base = l * Monitor::WIDTH;
-    let mut y = Monitor::WIDTH;
     let mut row = row::up_to_highest(rows[base + Monitor::TOP as usize]);
-    while from < y {
-        y -= 1;
+    for y in (from..Monitor::WIDTH).rev() {
         row = rows[base + y] | row::before(row);
         rows[base + y] = row;
     }

@@ -5,14 +5,15 @@ ghost use Rattle.enforcement.specs.Model.{top};
 ghost use Rattle.retimer.specs.Meeting.{RowAsked, MeetsRow, RowsAsked, MeetsAt, Covered, MeetAsked, Meets};
 
 use crate::limits::Monitor;
+use crate::locations;
 use crate::sets::{bounds, diagonals, row};
-use crate::{bytes, locations};
 
 // Whether the counts have one of a row's readings, beside the second reading y.
 fn meets_row(counts: &[u8], l: u8, y: u8, row: u64) -> bool
     requires { RowAsked counts.now l y row }
     ensures { (result ≡ true) ↔ MeetsRow counts.now l y row }
 {
+    // A walk over set bits counts no index: no plainer as a `for`.
     let mut left = row;
     while 0 < left {
         let x = u64::trailing_zeros(left) as u8;
@@ -40,18 +41,16 @@ fn meets_at(counts: &[u8], l: u8, set: &[u64], h: usize) -> bool
     requires { (RowsAsked counts.now set.now (l + 1) h) × (l < max_count) }
     ensures { (result ≡ true) ↔ MeetsAt counts.now l set.now h }
 {
-    let a = bytes::wide(l) * h;
+    let a = usize::from(l) * h;
     let first = Monitor::WIDTH - h;
     let last = h - 1;
     let mut before = 0u64;
-    let mut i = 0;
-    while i < last {
+    for i in 0..last {
         let row = set[a + i];
         if meets_row(counts, l, (first + i) as u8, row::fresh(row, before)) {
             return true;
         }
         before = row;
-        i += 1;
     }
     meets_saturated(counts, l, set[a + last])
 }
@@ -61,14 +60,12 @@ fn meets_in(counts: &[u8], set: &[u64], places: u16, locations: u8, h: usize) ->
     requires { (RowsAsked counts.now set.now locations h) × ((locations ≤ max_count) × (Covered set.now places locations h)) }
     ensures { (result ≡ true) ↔ ((l : ℕ) × MeetsAt counts.now l set.now h) }
 {
-    let mut l = 0;
-    while l < locations {
-        if locations::has(places, bytes::wide(l)) {
+    for l in 0..locations {
+        if locations::has(places, usize::from(l)) {
             if meets_at(counts, l, set, h) {
                 return true;
             }
         }
-        l += 1;
     }
     false
 }

@@ -14,7 +14,7 @@ fn fire_into(s: &[u8], p: usize, src: &[u64], next: &mut [u64]) -> u16
     requires { (Plays s.now src.now next.old) × ((p + 7 ≤ length s.now) × (Fits s.now (transition_at s.now p))) }
     ensures { FiredInto s.now (transition_at s.now p) src.now next.old next.new result }
 {
-    let t = bytes::wide(s[p + 1]);
+    let t = usize::from(s[p + 1]);
     let a = t * src.len();
     let e = a + src.len();
     if fire::fire(s, p, src, &mut next[a..e]) {
@@ -29,14 +29,13 @@ fn play_at(s: &[u8], c: u8, l: usize, src: &[u64], next: &mut [u64]) -> u16
     ensures { PlayedAt s.now c l src.now next.old next.new result }
 {
     let pair = 6 + 4 * l;
-    let mut p = bytes::word_at(s, pair);
-    let end = p + bytes::word_at(s, pair + 2);
+    let first = bytes::word_at(s, pair);
+    let end = first + bytes::word_at(s, pair + 2);
     let mut found = 0u16;
-    while p < end {
+    for p in (first..end).step_by(7) {
         if s[p] == c {
             found = found | fire_into(s, p, src, next);
         }
-        p += 7;
     }
     found
 }
@@ -57,11 +56,7 @@ fn play_from(s: &[u8], c: u8, l: usize, set: &mut [u64], next: &mut [u64]) -> u1
 fn clear(set: &mut [u64])
     ensures { Cleared set.old set.new (length set.old) }
 {
-    let mut i = 0;
-    while i < set.len() {
-        set[i] = 0;
-        i += 1;
-    }
+    set.fill(0);
 }
 
 // Waits, and plays an action: `next` becomes what it makes of the set, and the answer is where. The set becomes what any wait makes of it.
@@ -70,14 +65,11 @@ pub fn play(s: &[u8], c: u8, set: &mut [u64], places: u16, next: &mut [u64]) -> 
     ensures { (Played s.now c set.old next.new result) × (Elapsed s.now set.old set.new places) }
 {
     clear(next);
-    let count = bytes::wide(s[0]);
     let mut found = 0u16;
-    let mut l = 0usize;
-    while l < count {
+    for l in 0..usize::from(s[0]) {
         if locations::has(places, l) {
             found = found | play_from(s, c, l, set, next);
         }
-        l += 1;
     }
     found
 }
@@ -87,7 +79,7 @@ pub fn size(s: &[u8]) -> usize
     requires { WellFormed s.now }
     ensures { result ≡ locations s.now * height s.now }
 {
-    bytes::wide(s[0]) * bounds::height(s)
+    usize::from(s[0]) * bounds::height(s)
 }
 
 // Puts a configuration into an empty set; answers its place.
@@ -96,7 +88,7 @@ pub fn begin(s: &[u8], l: u8, r: [u8; 2], set: &mut [u64]) -> u16
     ensures { Single s.now (located l r) set.new result }
 {
     let h = bounds::height(s);
-    let i = bytes::wide(l) * h + (bytes::wide(r[1]) + h - Monitor::WIDTH);
+    let i = usize::from(l) * h + (usize::from(r[1]) + h - Monitor::WIDTH);
     set[i] = 1u64 << r[0];
     1u16 << l
 }

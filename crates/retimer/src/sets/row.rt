@@ -3,7 +3,6 @@ ghost use Rattle.std.specs.Prelude.{◌≤◌, ◌<◌, ◌^◌};
 ghost use Rattle.enforcement.specs.Model.{width};
 ghost use Rattle.retimer.specs.Row.{Interval, TickAfter, Upward, Fresh, TickBefore, UpTo, Spread, Gaps, Highest};
 
-use crate::bytes;
 use crate::limits::Monitor;
 
 // The row of the saturated reading alone, and the first number that has a bit above it.
@@ -79,5 +78,5 @@ pub fn highest(row: u64) -> u8
 pub fn up_to_highest(row: u64) -> u64
     ensures { UpTo row result }
 {
-    interval(0, bytes::wide(highest(row)))
+    interval(0, usize::from(highest(row)))
 }

@@ -2,7 +2,7 @@
 ghost use Rattle.std.specs.Prelude.{ℕ, ◌≤◌, ◌<◌, ◌^◌, length};
 ghost use Rattle.enforcement.specs.Model.{width};
 ghost use Rattle.retimer.specs.Row.{In, Flag};
-ghost use Rattle.retimer.specs.Sets.{Narrow, Waited, United, Adds, Joined, Kept, Reset};
+ghost use Rattle.retimer.specs.Sets.{Narrow, Waited, United, Adds, Joined, Kept, Reset, Gains};
 
 use crate::sets::row;
 
@@ -14,9 +14,7 @@ pub fn wait(rows: &mut [u64])
     let last = rows.len() - 1;
     // The row before stays at hand: reading it back is slower.
     let mut row = rows[0];
-    let mut i = 0;
-    while i < last {
-        i += 1;
+    for i in 1..rows.len() {
         row = rows[i] | row::tick(row);
         rows[i] = row;
     }
@@ -29,10 +27,28 @@ pub fn union(src: &[u64], cols: u64, a: usize, b: usize) -> u64
     ensures { United src.now cols a b result }
 {
     let mut any = 0u64;
-    let mut i = a;
-    while i < b {
+    for i in a..b {
         any = any | src[i];
-        i += 1;
+    }
+    any & cols
+}
+
+// Adds to the rows from a up to b what is made of their readings in cols, and answers these.
+fn join<F: Fn(u64) -> u64>(
+    src: &[u64],
+    cols: u64,
+    a: usize,
+    b: usize,
+    out: &mut [u64],
+    made: F,
+) -> u64
+    requires { (Adds src.now cols a b out.old) × (F.IsAlwaysCallable made) }
+    ensures { (Gains src.now out.old out.new cols a b (F.post made)) × (United src.now cols a b result) }
+{
+    let mut any = 0u64;
+    for i in a..b {
+        any = any | src[i];
+        out[i] = out[i] | made(src[i] & cols);
     }
     any & cols
 }
@@ -42,21 +58,14 @@ pub fn add(src: &[u64], cols: u64, a: usize, b: usize, out: &mut [u64]) -> u64
     requires { Adds src.now cols a b out.old }
     ensures { (Joined out.old out.new (Kept src.now cols) a b) × (United src.now cols a b result) }
 {
-    let mut any = 0u64;
-    let mut i = a;
-    while i < b {
-        any = any | src[i];
-        out[i] = out[i] | (src[i] & cols);
-        i += 1;
-    }
-    any & cols
+    join(src, cols, a, b, out, |e| e)
 }
 
 // The reading 0, if there is any in e.
 pub fn flag(e: u64) -> u64
     ensures { Flag e result }
 {
-    if e == 0 { 0 } else { 1 }
+    u64::from(e != 0)
 }
 
 // Adds the reading 0 to each of the rows from a up to b that has readings in cols, and answers these: the first clock is reset.
@@ -64,14 +73,7 @@ pub fn mark(src: &[u64], cols: u64, a: usize, b: usize, out: &mut [u64]) -> u64
     requires { Adds src.now cols a b out.old }
     ensures { (Joined out.old out.new (Reset src.now cols) a b) × (United src.now cols a b result) }
 {
-    let mut any = 0u64;
-    let mut i = a;
-    while i < b {
-        any = any | src[i];
-        out[i] = out[i] | flag(src[i] & cols);
-        i += 1;
-    }
-    any & cols
+    join(src, cols, a, b, out, flag)
 }
 
 // Adds readings to the first row: the second clock is reset.

@@ -23,11 +23,7 @@ pub fn fill(rows: &mut [u64], l: usize, from: usize)
     ensures { LocationFilled rows.old rows.new l from }
 {
     let base = l * Monitor::WIDTH;
-    let mut y = from;
-    while y < Monitor::WIDTH {
-        rows[base + y] = u64::MAX;
-        y += 1;
-    }
+    rows[base + from..base + Monitor::WIDTH].fill(u64::MAX);
 }
 
 // Gives some locations every configuration.
@@ -35,12 +31,9 @@ pub fn fill_each(rows: &mut [u64], places: u16)
     requires { length rows.old ≡ all_rows }
     ensures { Filled rows.old rows.new places }
 {
-    let mut l = 0;
-    while l < Monitor::COUNT {
-        let k = l;
-        l += 1;
-        if locations::has(places, k) {
-            fill(rows, k, 0);
+    for l in 0..Monitor::COUNT {
+        if locations::has(places, l) {
+            fill(rows, l, 0);
         }
     }
 }

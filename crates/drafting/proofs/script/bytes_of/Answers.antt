@@ -1,26 +1,14 @@
 -- `script::bytes_of` meets its contract: the bytes put and those that are left are the text's.
 -- Assumes nothing.
 use mathlib.Core.Path.{refl, ap}
-use Prim.Native.Nat.{ℕ}
 use native.Mathlib.Omega.{arith}
 use lib.ListN.{length, length-set}
 use borrow.Author.Tests.{ltb-true, ltb-false}
 use Rattle.drafting.specs.Scripts.{bytes_from}
-use Rattle.drafting.proofs.Filling.{empty, one, further, full, as_bytes}
+use Rattle.drafting.proofs.Filling.{one, further, full, as_bytes}
 use Rattle.drafting.proofs.RoomLaws.{counted}
 use Rattle.drafting.proofs.ByteLaws.{byte_next, no_room, no_byte}
 use Rattle.drafting.proofs.script.bytes_of.Goals as goal
-
-pub loop-i-init : goal.loop-i-init
-loop-i-init c =
-    let e = c.args in
-    (omega arith, (refl, empty e.out.now 0 (ap (λ (k : ℕ). bytes_from k e.text.now c.first_digit-i.result) (omega arith))))
-
-pub bounds-out-n : goal.bounds-out-n
-bounds-out-n c = omega (arith, ltb-true)
-
-pub loop-i-smaller : goal.loop-i-smaller
-loop-i-smaller c = omega (arith, ltb-true)
 
 pub loop-i-preserved : goal.loop-i-preserved
 loop-i-preserved c =

@@ -1,29 +1,16 @@
 -- `script::calls_of` meets its contract: the calls put and those that are left are the text's.
 -- Assumes nothing.
-use mathlib.Core.Path.{refl, sym, ap, ◌∙◌}
+use mathlib.Core.Path.{sym, ap, ◌∙◌}
 use mathlib.Core.List.{[]}
 use Prim.Native.Nat.{ℕ, ◌+◌, ◌-◌, ◌/◌, ◌≤◌}
 use native.Mathlib.Omega.{arith}
 use lib.ListN.{length}
 use borrow.Author.Tests.{leb-true, leb-false}
 use Rattle.drafting.specs.Scripts.{calls_from}
-use Rattle.drafting.proofs.Filling.{empty, further, full, as_bytes}
+use Rattle.drafting.proofs.Filling.{further, full, as_bytes}
 use Rattle.drafting.proofs.RoomLaws.{room_one, room_after, inside, past, counted}
 use Rattle.drafting.proofs.CallLaws.{entry_next, no_room_for_call, no_call}
 use Rattle.drafting.proofs.script.calls_of.Goals as goal
-
-pub loop-i-init : goal.loop-i-init
-loop-i-init c =
-    let e = c.args in
-    (omega arith, (refl, empty e.out.now 0 (ap (λ (k : ℕ). calls_from k e.text.now [] 0 c.first_digit-i.result) (omega arith))))
-
-pub put_entry-n-requires : goal.put_entry-n-requires
-put_entry-n-requires c = omega (arith, leb-true)
-
-pub loop-i-smaller : goal.loop-i-smaller
-loop-i-smaller c =
-    let far = past _ _ _ c.put_entry-n.ensures.0 in
-    omega (arith, leb-true, far)
 
 pub loop-i-preserved : goal.loop-i-preserved
 loop-i-preserved c =

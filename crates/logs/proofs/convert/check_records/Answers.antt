@@ -1,17 +1,13 @@
 -- `convert::check_records` meets its contract: what the records that are left answer is what all of them do.
 -- Assumes nothing.
 use mathlib.Core.Path.{sym, ◌∙◌}
-use native.Mathlib.Omega.{arith}
-use Rattle.logs.proofs.Rest.{Next, check_all, check_done, check_late, check_falling, check_sound}
+use Rattle.logs.proofs.Rest.{Next, check_done, check_late, check_falling, check_sound}
 use Rattle.logs.proofs.convert.check_records.Goals as goal
-
-pub loop-k-init : goal.loop-k-init
-loop-k-init c = (omega arith, check_all c.args.f c.args.log.now)
 
 pub returns-then-date-gt-LAST : goal.returns-then-date-gt-LAST
 returns-then-date-gt-LAST c =
     let l = c.loop-k in
-    let x = c.at-r in
+    let x = c.at in
     let y = c.date_of-date in
     let a = c.args in
     let n : Next a.f a.log.now l.k l.before x.result y.result = record { inside = c.loop-k-test.true; record_is = x.ensures; date_is = y.ensures } in
@@ -20,7 +16,7 @@ returns-then-date-gt-LAST c =
 pub returns-then-date-before : goal.returns-then-date-before
 returns-then-date-before c =
     let l = c.loop-k in
-    let x = c.at-r in
+    let x = c.at in
     let y = c.date_of-date in
     let a = c.args in
     let n : Next a.f a.log.now l.k l.before x.result y.result = record { inside = c.loop-k-test.true; record_is = x.ensures; date_is = y.ensures } in
@@ -29,7 +25,7 @@ returns-then-date-before c =
 pub loop-k-preserved : goal.loop-k-preserved
 loop-k-preserved c =
     let l = c.loop-k in
-    let x = c.at-r in
+    let x = c.at in
     let y = c.date_of-date in
     let a = c.args in
     let n : Next a.f a.log.now l.k l.before x.result y.result = record { inside = c.loop-k-test.true; record_is = x.ensures; date_is = y.ensures } in

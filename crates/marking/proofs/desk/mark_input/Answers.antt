@@ -4,4 +4,4 @@ use Rattle.retimer.proofs.Loads.{accepted_loads}
 use Rattle.marking.proofs.desk.mark_input.Goals as goal
 
 pub mark_calls-requires : goal.mark_calls-requires
-mark_calls-requires g c = (c.load-start.ensures.fresh (accepted_loads _ _ c.load-start.result.checked _ c.in-Accepted.is c.load-start.ensures.checked)).valid
+mark_calls-requires g c = (c.load-start.ensures.fresh (accepted_loads _ _ c.load-start.result.checked _ c.in-Ok.is c.load-start.ensures.checked)).valid

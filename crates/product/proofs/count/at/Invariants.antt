@@ -5,8 +5,5 @@ use Rattle.product.specs.Rows.{row_transitions}
 use Rattle.product.proofs.Counts.{CountedAt}
 use Rattle.product.proofs.count.at.Given as goal
 
-abbrev pub invariant-loop-left : goal.invariant-loop-left
-invariant-loop-left l = CountedAt l.first (locations l.second) (row_transitions l.second l.b) l.initial.left l.initial.p l.k l.left l.p
-
-abbrev pub decreases-loop-left : goal.decreases-loop-left
-decreases-loop-left l = l.left
+abbrev pub invariant-loop-i : goal.invariant-loop-i
+invariant-loop-i l = CountedAt l.first (locations l.second) (row_transitions l.second l.b) l.a l.k l.i

@@ -3,8 +3,5 @@
 use Rattle.product.proofs.Counts.{Counted}
 use Rattle.product.proofs.count.matching.Given as goal
 
-abbrev pub invariant-loop-left : goal.invariant-loop-left
-invariant-loop-left l = Counted l.first l.p l.second l.initial.left l.initial.q l.action l.k l.left l.q
-
-abbrev pub decreases-loop-left : goal.decreases-loop-left
-decreases-loop-left l = l.left
+abbrev pub invariant-loop-i : goal.invariant-loop-i
+invariant-loop-i l = Counted l.first l.p l.second l.row l.k l.i

@@ -5,6 +5,3 @@ use Rattle.product.proofs.header.accepting_set.Given as goal
 
 abbrev pub invariant-loop-l : goal.invariant-loop-l
 invariant-loop-l l = Gathered l.first l.second l.initial.l l.set l.l
-
-abbrev pub decreases-loop-l : goal.decreases-loop-l
-decreases-loop-l l = l.l

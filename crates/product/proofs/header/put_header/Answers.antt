@@ -1,9 +1,11 @@
 -- `header::put_header` meets its contract: each number fits a byte.
 -- Assumes nothing.
+use mathlib.Core.Path.{ap, ◌∙◌}
 use native.Mathlib.Omega.{arith}
 use Rattle.enforcement.proofs.Loading.{size_fits}
+use Rattle.product.specs.Encoding.{word_bytes}
 use Rattle.retimer.proofs.Writing.{as_part}
-use Rattle.product.proofs.Headers.{initial_below, header_is}
+use Rattle.product.proofs.Headers.{word_is, initial_below, header_is}
 use Rattle.product.proofs.header.put_header.Goals as goal
 
 pub bounds-first-0 : goal.bounds-first-0
@@ -39,4 +41,5 @@ overflow_add-header-2 c = omega (arith, initial_below c.requires.0)
 pub returns : goal.returns
 returns c =
     let a = c.args in
-    as_part c.put.ensures (header_is a.first.now a.second.now _ c.accepting_set-set.ensures.0)
+    let e = c.to_le_bytes.ensures ∙ word_is _ c.accepting_set.ensures.1 ∙ ap word_bytes c.accepting_set.ensures.0 in
+    as_part c.put.ensures (header_is a.first.now a.second.now c.to_le_bytes.result e)

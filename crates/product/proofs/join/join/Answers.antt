@@ -1,49 +1,39 @@
--- `join::join` meets its contract, for each answer.
+-- `join::join` meets its contract: for each answer.
 -- Assumes nothing.
 use mathlib.Core.Path.{◌≡◌, refl, sym, ap, ◌∙◌}
-use Prim.Native.Nat.{ℕ}
+use Rattle.std.specs.Prelude.{Err}
+use native.Mathlib.Omega.{arith}
 use lib.ListN.{length}
-use Rattle.product.specs.declared.join.Answer.{Answer}
-use Rattle.product.specs.declared.join.Answer.TheVariants.{Joined, Length, First, Second, Actions, Size, Transitions}
-use Rattle.product.specs.Joining.{i_9, Refusal, refused, outcome_of}
+use Rattle.product.specs.declared.join.Refusal.TheVariants.{Length}
+use Rattle.product.specs.Joining.{outcome_of}
 use Rattle.product.proofs.Answers.{wrong_length, right_length, written_joinable, refusing, joining}
 use Rattle.product.proofs.join.join.Goals as goal
-
--- An answer of another variant is a refusal.
-not_joined : (a : Answer) → ((n : ℕ) → a ≡ Joined n → ⊥) → (q : Refusal) × (outcome_of a ≡ refused q)
-not_joined (Joined n) o = absurd (o n refl)
-not_joined Length o = (_, refl)
-not_joined (First r) o = (_, refl)
-not_joined (Second r) o = (_, refl)
-not_joined Actions o = (_, refl)
-not_joined Size o = (_, refl)
-not_joined Transitions o = (_, refl)
 
 pub returns-then-out-ne-SIZE : goal.returns-then-out-ne-SIZE
 returns-then-out-ne-SIZE c =
     let a = c.args in
-    refusing a.first.now a.second.now a.out.now Length (wrong_length (length a.out.now) a.first.now a.second.now c.if-out-ne-SIZE.true) i_9 refl
+    refusing a.first.now a.second.now a.out.now (Err Length) Length refl (wrong_length (length a.out.now) a.first.now a.second.now c.if-out-ne-SIZE.true)
+
+pub returns-in_err-length : goal.returns-in_err-length
+returns-in_err-length c =
+    let a = c.args in
+    let sized_refused = c.if-out-ne-SIZE.false in
+    let e = c.check.ensures ∙ right_length (length a.out.now) a.first.now a.second.now sized_refused in
+    let gone : c.from_residual.result ≡ Err c.in_err-length.field-0.0 = grind arith in
+    refusing a.first.now a.second.now a.out.now c.from_residual.result c.in_err-length.field-0.0 gone (ap outcome_of (gone ∙ sym c.in_err-length.was) ∙ e)
 
 pub write-requires : goal.write-requires
 write-requires c =
     let a = c.args in
-    let l = c.if-out-ne-SIZE.false in
-    let t = c.in-Joined in
-    let e = c.check-answer.ensures ∙ right_length (length a.out.now) a.first.now a.second.now l in
-    (written_joinable (length a.out.now) a.first.now a.second.now t.field-0 (sym e ∙ ap outcome_of t.is), l)
+    let sized_written = c.if-out-ne-SIZE.false in
+    let t = c.in_ok-length in
+    let e = c.check.ensures ∙ right_length (length a.out.now) a.first.now a.second.now sized_written in
+    (written_joinable (length a.out.now) a.first.now a.second.now t.length (sym e ∙ ap outcome_of t.was), sized_written)
 
-pub returns-in-Joined : goal.returns-in-Joined
-returns-in-Joined c =
+pub returns : goal.returns
+returns c =
     let a = c.args in
     let sized_joined = c.if-out-ne-SIZE.false in
-    let t = c.in-Joined in
-    let e = c.check-answer.ensures ∙ right_length (length a.out.now) a.first.now a.second.now sized_joined in
-    joining a.first.now a.second.now a.out.now c.check-answer.result e c.write.new.out t.field-0 (ap outcome_of t.is) c.write.ensures
-
-pub returns-in_default : goal.returns-in_default
-returns-in_default c =
-    let a = c.args in
-    let sized_other = c.if-out-ne-SIZE.false in
-    let e = c.check-answer.ensures ∙ right_length (length a.out.now) a.first.now a.second.now sized_other in
-    let q = not_joined c.check-answer.result c.in_default.not-Joined in
-    refusing a.first.now a.second.now a.out.now c.check-answer.result e q.0 q.1
+    let t = c.in_ok-length in
+    let e = c.check.ensures ∙ right_length (length a.out.now) a.first.now a.second.now sized_joined in
+    joining a.first.now a.second.now a.out.now c.write.new.out t.length (sym e ∙ ap outcome_of t.was) c.write.ensures

@@ -1,21 +1,12 @@
 -- `row::of` meets its contract: the pair of the location is read.
 -- Assumes nothing.
 use native.Mathlib.Omega.{arith}
-use Rattle.enforcement.proofs.Loading.{header, pairs_fit}
+use Rattle.enforcement.proofs.Loading.{pairs_fit}
 use Rattle.product.proofs.RowLaws.{row_of}
 use Rattle.product.proofs.row.of.Goals as goal
 
-pub overflow_mul-pair : goal.overflow_mul-pair
-overflow_mul-pair c = omega (arith, (header c.args.s.now c.requires.0).locations_fit)
-
-pub overflow_add-pair : goal.overflow_add-pair
-overflow_add-pair c = omega (arith, (header c.args.s.now c.requires.0).locations_fit)
-
 pub word_at-requires : goal.word_at-requires
 word_at-requires c = omega (arith, pairs_fit c.args.s.now c.requires.0)
-
-pub overflow_add-pair-2 : goal.overflow_add-pair-2
-overflow_add-pair-2 c = omega (arith, (header c.args.s.now c.requires.0).locations_fit)
 
 pub word_at-requires-2 : goal.word_at-requires-2
 word_at-requires-2 c = omega (arith, pairs_fit c.args.s.now c.requires.0)

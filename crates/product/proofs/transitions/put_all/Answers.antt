@@ -4,11 +4,8 @@ use native.Mathlib.Omega.{arith}
 use Rattle.product.proofs.Putting.{going_begun, going_room, going_put, going_done}
 use Rattle.product.proofs.transitions.put_all.Goals as goal
 
-pub count-count-requires : goal.count-count-requires
-count-count-requires c = let j = c.requires.0 in (j.first, j.second)
-
 pub loop-l-init : goal.loop-l-init
-loop-l-init c = let a = c.args in going_begun a.first.now a.second.now a.out.now a.at c.count-count.result c.count-count.ensures c.requires.1
+loop-l-init c = let a = c.args in going_begun a.first.now a.second.now a.out.now a.at c.count-l-end.result c.count-l-end.ensures c.requires.1
 
 pub put_at-end-requires : goal.put_at-end-requires
 put_at-end-requires c =
@@ -19,9 +16,6 @@ pub loop-l-preserved : goal.loop-l-preserved
 loop-l-preserved c =
     let p = c.put_at-end in
     going_put c.loop-l.invariant c.loop-l-test.true p.ensures p.auto.out
-
-pub shape_of-out : goal.shape_of-out
-shape_of-out c = c.loop-l.invariant.filling.same
 
 pub returns : goal.returns
 returns c = going_done c.loop-l.invariant c.loop-l-test.false

@@ -6,46 +6,28 @@ use native.Mathlib.Omega.{arith}
 use lib.ListN.{length}
 use Rattle.retimer.proofs.Writing.{as_part}
 use Rattle.product.specs.Encoding.{transitions_bytes}
-use Rattle.product.proofs.RowLaws.{row_joints, row_fits, first_fits}
+use Rattle.product.proofs.RowLaws.{row_joints, row_fits, fitting_at}
 use Rattle.enforcement.specs.Automaton.{Transition, locations}
 use Rattle.product.specs.Rows.{row_transitions}
 use Rattle.product.proofs.Putting.{laying_begun, laying_room, laying_put, laying_done}
 use Rattle.product.proofs.transitions.put_at.Goals as goal
 
-pub of-both-requires : goal.of-both-requires
-of-both-requires c = let r = c.requires in (r.0.first, (r.0.second, r.1.0))
-
-pub of-a-requires : goal.of-a-requires
-of-a-requires c = (c.requires.0.first, c.of-both.ensures.first_in)
-
-pub of-b-requires : goal.of-b-requires
-of-b-requires c = (c.requires.0.second, c.of-both.ensures.second_in)
-
-pub loop-left-init : goal.loop-left-init
-loop-left-init c =
+pub loop-i-init : goal.loop-i-init
+loop-i-init c =
     let a = c.args in
-    let r = c.requires in
-    let x = c.of-a in
-    let e = row_joints c.of-both.ensures x.ensures c.of-b.ensures in
-    laying_begun a.first.now (locations a.second.now) (row_transitions a.second.now c.of-b.result) a.out.now a.at x.result.count x.result.first (omega (arith, r.1.1, ap (λ (ts : List Transition). length (transitions_bytes ts)) e)) (row_fits r.0.first x.ensures)
+    let e = row_joints c.of-both.ensures c.of-a.ensures c.of-b.ensures in
+    laying_begun a.first.now (locations a.second.now) (row_transitions a.second.now c.of-b.result) a.out.now a.at c.of-a.result (omega (arith, c.requires.1.1, ap (λ (ts : List Transition). length (transitions_bytes ts)) e))
 
 pub put_matching-end-requires : goal.put_matching-end-requires
 put_matching-end-requires c =
     let r = c.requires in
-    let h = c.loop-left.invariant in
-    let some = c.loop-left-test.true in
-    (r.0, (first_fits some h.fit, (row_fits r.0.second c.of-b.ensures, laying_room h some)))
+    let some = c.loop-i-test.true in
+    (r.0, (fitting_at c.loop-i.i some (row_fits r.0.first c.of-a.ensures), (row_fits r.0.second c.of-b.ensures, laying_room c.loop-i.invariant some)))
 
-pub overflow_add-p : goal.overflow_add-p
-overflow_add-p c = omega (arith, c.loop-left.invariant.fit.row_in.inside)
-
-pub loop-left-preserved : goal.loop-left-preserved
-loop-left-preserved c =
+pub loop-i-preserved : goal.loop-i-preserved
+loop-i-preserved c =
     let m = c.put_matching-end in
-    laying_put c.loop-left.invariant c.loop-left-test.true m.ensures m.auto.out
-
-pub shape_of-out : goal.shape_of-out
-shape_of-out c = c.loop-left.invariant.filling.same
+    laying_put c.loop-i.invariant c.loop-i-test.true m.ensures m.auto.out
 
 pub returns : goal.returns
-returns c = as_part (laying_done c.loop-left.invariant (omega arith)) (ap transitions_bytes (row_joints c.of-both.ensures c.of-a.ensures c.of-b.ensures))
+returns c = as_part (laying_done c.loop-i.invariant c.loop-i-test.false) (ap transitions_bytes (row_joints c.of-both.ensures c.of-a.ensures c.of-b.ensures))

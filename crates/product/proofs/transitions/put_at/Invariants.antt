@@ -5,8 +5,5 @@ use Rattle.product.specs.Rows.{row_transitions}
 use Rattle.product.proofs.Putting.{Laying}
 use Rattle.product.proofs.transitions.put_at.Given as goal
 
-abbrev pub invariant-loop-left : goal.invariant-loop-left
-invariant-loop-left l = Laying l.first (locations l.second) (row_transitions l.second l.b) l.initial.out l.at l.initial.left l.initial.p l.out l.end l.left l.p
-
-abbrev pub decreases-loop-left : goal.decreases-loop-left
-decreases-loop-left l = l.left
+abbrev pub invariant-loop-i : goal.invariant-loop-i
+invariant-loop-i l = Laying l.first (locations l.second) (row_transitions l.second l.b) l.initial.out l.at l.a l.out l.end l.i

@@ -3,8 +3,5 @@
 use Rattle.product.proofs.Putting.{Matching}
 use Rattle.product.proofs.transitions.put_matching.Given as goal
 
-abbrev pub invariant-loop-left : goal.invariant-loop-left
-invariant-loop-left l = Matching l.first l.p l.second l.initial.out l.at l.initial.left l.initial.q l.out l.end l.left l.q
-
-abbrev pub decreases-loop-left : goal.decreases-loop-left
-decreases-loop-left l = l.left
+abbrev pub invariant-loop-i : goal.invariant-loop-i
+invariant-loop-i l = Matching l.first l.p l.second l.initial.out l.at l.row l.out l.end l.i

@@ -6,8 +6,5 @@ use Rattle.retimer.proofs.Writing.{next}
 use Rattle.report.proofs.LineLaws.{reason_three}
 use Rattle.report.proofs.line.refused_line.Goals as goal
 
-pub put-requires : goal.put-requires
-put-requires c = omega (arith, reason_three (reason_of c.args.r))
-
 pub returns : goal.returns
 returns c = next (omega (arith, reason_three (reason_of c.args.r))) (next (omega arith) c.put-word.ensures c.put_reason-reason.ensures) c.put.ensures

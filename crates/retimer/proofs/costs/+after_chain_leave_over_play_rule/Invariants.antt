@@ -38,9 +38,6 @@ decreases-leave-loop-p l = l.end - l.p
 abbrev pub invariant-over-loop-i : goal.invariant-over-loop-i
 invariant-over-loop-i l = InOver l.s l.cs l.k l.t l.clock l.z l.n l.from l.best l.initial.first l.initial.second l.first l.second l.v l.i
 
-abbrev pub decreases-over-loop-i : goal.decreases-over-loop-i
-decreases-over-loop-i l = l.n - l.i
-
 abbrev pub invariant-play-loop-left : goal.invariant-play-loop-left
 invariant-play-loop-left l = InPlay l.s l.cs l.k l.x l.y l.here l.initial.left l.initial.found.best l.initial.next l.initial.first l.initial.second l.next l.first l.second l.found.places l.found.best l.left
 

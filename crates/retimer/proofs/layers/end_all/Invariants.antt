@@ -1,11 +1,6 @@
 -- `layers::end_all` meets its contract. Assumes nothing.
-use Prim.Native.Nat.{◌-◌}
-use Rattle.enforcement.specs.Automaton.{locations}
 use Rattle.retimer.proofs.LayingAll.{InEnds}
 use Rattle.retimer.proofs.layers.end_all.Given as goal
 
 abbrev pub invariant-loop-l : goal.invariant-loop-l
 invariant-loop-l l = InEnds l.s l.low l.high l.l
-
-abbrev pub decreases-loop-l : goal.decreases-loop-l
-decreases-loop-l l = locations l.s - l.l

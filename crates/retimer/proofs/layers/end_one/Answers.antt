@@ -6,15 +6,8 @@ use Rattle.enforcement.proofs.Loading.{header}
 use Rattle.retimer.proofs.LayingAll.{ended_small, ended_gained}
 use Rattle.retimer.proofs.layers.end_one.Goals as goal
 
-pub overflow_cast-l : goal.overflow_cast-l
-overflow_cast-l c = let n = (header c.args.s.now c.requires.0.0).locations_fit in omega (arith, c.requires.0.1)
-
 pub ending-c-requires : goal.ending-c-requires
 ending-c-requires c = let n = (header c.args.s.now c.requires.0.0).locations_fit in (c.requires.0.0, omega (arith, c.requires.0.1))
-
-pub clear-requires : goal.clear-requires
-clear-requires c =
-    (record { in_half = omega arith; size = c.requires.1.0.size; small = c.requires.1.0.small }, ended_small (accepting c.args.s.now c.args.l) c.ending-c.ensures)
 
 pub returns-then-l-lt-HALF : goal.returns-then-l-lt-HALF
 returns-then-l-lt-HALF c =

@@ -1,11 +1,7 @@
 -- `layers::lower_box` meets its contract. Assumes nothing.
-use Prim.Native.Nat.{◌-◌}
 use Rattle.enforcement.specs.Automaton.{transition_at}
 use Rattle.retimer.proofs.LayingBoxes.{InBox}
 use Rattle.retimer.proofs.layers.lower_box.Given as goal
 
 abbrev pub invariant-loop-y : goal.invariant-loop-y
 invariant-loop-y l = InBox (transition_at l.s l.p) l.other l.t l.m l.y l.initial.table l.table
-
-abbrev pub decreases-loop-y : goal.decreases-loop-y
-decreases-loop-y l = l.last - l.y

@@ -1,10 +1,6 @@
 -- `layers::note_all` meets its contract. Assumes nothing.
-use Prim.Native.Nat.{◌-◌, ◌≤◌}
 use Rattle.retimer.specs.Layers.{ChosenFrom, Noting}
 use Rattle.retimer.proofs.layers.note_all.Given as goal
 
 abbrev pub invariant-loop-m : goal.invariant-loop-m
-invariant-loop-m l = Noting l.s l.cs l.k (ChosenFrom l.h l.m l.places) l.initial.first l.initial.second l.first l.second × (l.m ≤ l.n)
-
-abbrev pub decreases-loop-m : goal.decreases-loop-m
-decreases-loop-m l = l.n - l.m
+invariant-loop-m l = Noting l.s l.cs l.k (ChosenFrom l.h l.m l.places) l.initial.first l.initial.second l.first l.second

@@ -4,6 +4,3 @@ use Rattle.retimer.proofs.layers.tick_last.Given as goal
 
 abbrev pub invariant-loop-x : goal.invariant-loop-x
 invariant-loop-x l = InLast l.here l.x l.initial.table l.table
-
-abbrev pub decreases-loop-x : goal.decreases-loop-x
-decreases-loop-x l = l.x

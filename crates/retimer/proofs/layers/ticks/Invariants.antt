@@ -5,6 +5,3 @@ use Rattle.retimer.proofs.layers.ticks.Given as goal
 
 abbrev pub invariant-loop-y : goal.invariant-loop-y
 invariant-loop-y l = InTicks (Chosen l.h l.n l.places) l.y l.initial.table l.table
-
-abbrev pub decreases-loop-y : goal.decreases-loop-y
-decreases-loop-y l = l.y

@@ -1,10 +1,6 @@
 -- `layers::write` meets its contract. Assumes nothing.
-use Prim.Native.Nat.{◌-◌}
 use Rattle.retimer.proofs.LayingLocations.{InLay}
 use Rattle.retimer.proofs.layers.write.Given as goal
 
 abbrev pub invariant-loop-p : goal.invariant-loop-p
 invariant-loop-p l = InLay l.s l.cs l.k l.l l.m l.end l.initial.table l.table l.p
-
-abbrev pub decreases-loop-p : goal.decreases-loop-p
-decreases-loop-p l = l.end - l.p

@@ -9,10 +9,10 @@ pub loop-i-preserved : goal.loop-i-preserved
 loop-i-preserved c =
     let l = c.loop-i in
     let v = l.invariant in
-    (simp length-set v.0, (omega arith, (actions_more _ l.r l.i (omega arith) (omega arith) v.1.1.0, v.1.1.1)))
+    (simp length-set v.0, (actions_more _ l.r l.i (omega arith) (omega arith) v.1.0, v.1.1))
 
 pub returns : goal.returns
 returns c =
     let l = c.loop-i in
     let a = c.args in
-    actions_whole a.requests l.r l.i a.n (omega arith) l.invariant.1.1.0
+    actions_whole a.requests l.r l.i a.n (omega arith) l.invariant.1.0

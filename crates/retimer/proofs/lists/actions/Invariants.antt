@@ -2,7 +2,7 @@
 -- Assumes nothing.
 use mathlib.Core.Path.{◌≡◌}
 use mathlib.Core.List.{map}
-use Prim.Native.Nat.{◌+◌, ◌≤◌, ◌-◌}
+use Prim.Native.Nat.{◌+◌}
 use lib.ListN.{length, take}
 use Rattle.enforcement.specs.Limits.{max_count}
 use Rattle.enforcement.specs.History.{actions_of}
@@ -10,7 +10,4 @@ use Rattle.retimer.specs.View.{request_of}
 use Rattle.retimer.proofs.lists.actions.Given as goal
 
 abbrev pub invariant-loop-i : goal.invariant-loop-i
-invariant-loop-i l = (length l.r ≡ max_count + 1) × ((l.i ≤ l.n) × ((take l.i l.r ≡ actions_of (map request_of (take l.i l.requests))) × (length l.requests ≡ max_count)))
-
-abbrev pub decreases-loop-i : goal.decreases-loop-i
-decreases-loop-i l = l.n - l.i
+invariant-loop-i l = (length l.r ≡ max_count + 1) × ((take l.i l.r ≡ actions_of (map request_of (take l.i l.requests))) × (length l.requests ≡ max_count))

@@ -2,7 +2,7 @@
 -- Assumes nothing.
 use mathlib.Core.Path.{◌≡◌}
 use mathlib.Core.List.{map, ◌++◌}
-use Prim.Native.Nat.{◌+◌, ◌≤◌, ◌-◌}
+use Prim.Native.Nat.{◌+◌}
 use lib.ListN.{length, take}
 use Rattle.enforcement.specs.Limits.{max_count, max_scheduled}
 use Rattle.enforcement.specs.History.{place}
@@ -10,7 +10,4 @@ use Rattle.retimer.specs.View.{request_of, slot_of}
 use Rattle.retimer.proofs.lists.with_slots.Given as goal
 
 abbrev pub invariant-loop-i : goal.invariant-loop-i
-invariant-loop-i l = (length l.r ≡ max_scheduled) × ((l.i ≤ l.k) × ((map slot_of (take (l.n + l.i) l.r) ≡ map slot_of (take l.n l.initial.r) ++ place (map request_of (take l.i l.requests)) (take l.i l.ds)) × ((length l.requests ≡ max_count) × (length l.ds ≡ max_count + 1))))
-
-abbrev pub decreases-loop-i : goal.decreases-loop-i
-decreases-loop-i l = l.k - l.i
+invariant-loop-i l = (length l.slots ≡ max_scheduled) × ((map slot_of (take (l.n + l.i) l.slots) ≡ map slot_of (take l.n l.initial.slots) ++ place (map request_of (take l.i l.requests)) (take l.i l.ds)) × ((length l.requests ≡ max_count) × (length l.ds ≡ max_count + 1)))

@@ -8,6 +8,3 @@ use Rattle.retimer.proofs.liveness.accepts.Goals as goal
 
 pub word_at-requires : goal.word_at-requires
 word_at-requires c = omega (arith, size_fits _ c.requires.0)
-
-pub returns : goal.returns
-returns c = c.has.ensures ∙ ap (λ (n : ℕ). bit n c.args.l) c.word_at.ensures.0

@@ -16,14 +16,8 @@ has_saturated-requires c = (c.requires.1.0.sized, omega (arith, (header _ c.requ
 pub returns-then-has_saturated : goal.returns-then-has_saturated
 returns-then-has_saturated c = whole_done _ c.requires.0 _ c.requires.1.0 c.requires.1.1.1.1 (sym c.has_saturated.ensures ∙ c.if-has_saturated.true)
 
-pub some_from_saturated-requires : goal.some_from_saturated-requires
-some_from_saturated-requires c = (c.requires.0, (c.requires.1.0.sized, c.requires.1.1.0))
-
 pub fill-requires : goal.fill-requires
 fill-requires c = (c.requires.1.0.sized, (omega (arith, (header _ c.requires.0).locations_fit, c.requires.1.1.0), omega (arith, c.requires.1.1.1.0, least_most (eqb (clocks c.args.s.now) 1))))
-
-pub shape_of-set-then-some_from_saturated : goal.shape_of-set-then-some_from_saturated
-shape_of-set-then-some_from_saturated c = c.fill.ensures.sized
 
 pub returns-then-some_from_saturated : goal.returns-then-some_from_saturated
 returns-then-some_from_saturated c = fill_gained _ c.requires.0 c.requires.1.0 (subst (FromSaturated _ _ _ _ _) c.if-some_from_saturated.true c.some_from_saturated.ensures) (c.slice_known-1.given (c.args.l * width + top)).fits (sym c.has_saturated.ensures ∙ c.if-has_saturated.false) _ c.requires.1.1.1.0 c.fill.ensures
@@ -31,14 +25,8 @@ returns-then-some_from_saturated c = fill_gained _ c.requires.0 c.requires.1.0 (
 pub close-requires : goal.close-requires
 close-requires c = (c.turns.ensures.gained.sound.sized, omega (arith, (header _ c.requires.0).locations_fit, c.requires.1.1.0))
 
-pub shape_of-set-then-turns : goal.shape_of-set-then-turns
-shape_of-set-then-turns c = c.close.ensures.sized ∙ c.turns.ensures.gained.sound.sized ∙ sym c.requires.1.0.sized
-
 pub returns-then-turns : goal.returns-then-turns
 returns-then-turns c = close_gained _ c.requires.0 c.if-turns.true c.turns.ensures refl _ c.requires.1.1.1.0 c.close.ensures
-
-pub shape_of-set : goal.shape_of-set
-shape_of-set c = c.turns.ensures.gained.sound.sized ∙ sym c.requires.1.0.sized
 
 pub returns : goal.returns
 returns c = turns_none _ c.requires.0 c.if-turns.false c.turns.ensures refl c.requires.1.1.1.1

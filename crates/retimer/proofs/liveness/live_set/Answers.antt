@@ -11,23 +11,8 @@ bounds-s-1 c = omega (arith, size_fits _ c.requires)
 pub word_at-gained-requires : goal.word_at-gained-requires
 word_at-gained-requires c = omega (arith, size_fits _ c.requires)
 
-pub overflow_cast-gained : goal.overflow_cast-gained
-overflow_cast-gained c = record { fits = c.word_at-gained.ensures.1 }
-
 pub loop-gained-init : goal.loop-gained-init
 loop-gained-init c = filled_pending _ c.requires _ c.word_at-gained.ensures.0 c.fill_each.ensures
-
-pub slice_bounds-sweep-end : goal.slice_bounds-sweep-end
-slice_bounds-sweep-end c = sym c.loop-gained.invariant.sound.sized
-
-pub sweep-gained-requires : goal.sweep-gained-requires
-sweep-gained-requires c = (c.requires, (c.loop-gained.invariant, c.least-from.ensures))
-
-pub loop-gained-smaller : goal.loop-gained-smaller
-loop-gained-smaller c = sweep_less _ c.requires _ c.sweep-gained.ensures c.loop-gained-test.true
-
-pub loop-gained-preserved : goal.loop-gained-preserved
-loop-gained-preserved c = c.sweep-gained.ensures.pending
 
 pub returns : goal.returns
 returns c = sweeps_ended _ c.requires c.loop-gained.invariant c.loop-gained-test.false

@@ -18,8 +18,8 @@ bounds-s-1 c = omega (arith, size_fits _ c.requires)
 pub count-requires : goal.count-requires
 count-requires c =
     let live = c.live_set-live.ensures in
-    let n = c.wide.ensures.0 in
+    let n = c.from.ensures in
     record { rows_sized = live.sized; sized = refl; in_range = omega (arith, n, live.fits); from_fits = omega (arith, c.least.ensures, least_most (eqb (clocks c.args.s.now) 1)); closed = table_closed _ _ live n c.least.ensures; empty = zero_at counts_size }
 
 pub returns : goal.returns
-returns c = table_counted _ _ _ c.live_set-live.ensures c.wide.ensures.0 c.least.ensures c.count.ensures
+returns c = table_counted _ _ _ c.live_set-live.ensures c.from.ensures c.least.ensures c.count.ensures

@@ -1,48 +1,29 @@
--- `liveness::some_from_saturated` meets its contract. The invariant: none of the transitions at the places before p leads so. The measure is what is left of the places. Assumes nothing.
+-- `liveness::some_from_saturated` meets its contract. The invariant: none of the transitions at the places before p leads so. Assumes nothing.
+use Rattle.retimer.specs.Live.{Place}
 use Rattle.retimer.proofs.LiveTable.{none_begun, none_more, some_found, none_ended}
-use Rattle.enforcement.proofs.Loading.{header, pairs_fit}
+use Rattle.enforcement.proofs.Loading.{pairs_fit}
 use mathlib.Core.Path.{sym, ◌∙◌}
 use native.Mathlib.Omega.{arith}
 use Rattle.retimer.proofs.liveness.some_from_saturated.Goals as goal
+use Rattle.retimer.proofs.liveness.some_from_saturated.Goals.{In-loop-p}
 
-pub overflow_mul-l : goal.overflow_mul-l
-overflow_mul-l c = record { fits = omega (arith, (header _ c.requires.0).locations_fit, c.requires.1.1) }
-
-pub overflow_add-l : goal.overflow_add-l
-overflow_add-l c = record { fits = omega (arith, (header _ c.requires.0).locations_fit, c.requires.1.1) }
-
-pub word_at-p-requires : goal.word_at-p-requires
-word_at-p-requires c = omega (arith, pairs_fit _ c.requires.0, c.requires.1.1)
-
-pub overflow_mul-l-2 : goal.overflow_mul-l-2
-overflow_mul-l-2 c = record { fits = omega (arith, (header _ c.requires.0).locations_fit, c.requires.1.1) }
-
-pub overflow_add-l-2 : goal.overflow_add-l-2
-overflow_add-l-2 c = record { fits = omega (arith, (header _ c.requires.0).locations_fit, c.requires.1.1) }
+pub word_at-first-requires : goal.word_at-first-requires
+word_at-first-requires c = omega (arith, pairs_fit _ c.requires.0, c.requires.1.1)
 
 pub word_at-requires : goal.word_at-requires
 word_at-requires c = omega (arith, pairs_fit _ c.requires.0, c.requires.1.1)
 
-pub overflow_add-end : goal.overflow_add-end
-overflow_add-end c = record { fits = omega (arith, c.word_at.ensures.1, c.word_at-p.ensures.1) }
-
-pub loop-p-init : goal.loop-p-init
-loop-p-init c = (omega (arith, c.word_at-p.ensures.0), (omega (arith, c.word_at-p.ensures.0), none_begun (omega (arith, c.word_at-p.ensures.0))))
-
-pub overflow_add-p : goal.overflow_add-p
-overflow_add-p c = record { fits = omega (arith, c.loop-p-test.true, c.word_at.ensures.1, c.word_at-p.ensures.1) }
-
-pub from_saturated-requires : goal.from_saturated-requires
-from_saturated-requires c = (c.requires.0, (c.requires.1.0, (c.requires.1.1, (record { after = c.loop-p.invariant.0; inside = omega (arith, c.loop-p-test.true, c.word_at-p.ensures.0, c.word_at.ensures.0); whole = c.loop-p.invariant.1.0 }))))
+place : (c : In-loop-p) → Place c.args.s.now c.args.l c.loop-p.p
+place c = record { after = omega (arith, c.loop-p.auto.p, c.word_at-first.ensures.0); inside = omega (arith, c.loop-p-test.true, c.word_at-first.ensures.0, c.word_at.ensures.0); whole = c.loop-p.invariant.0 }
 
 pub returns-then-from_saturated : goal.returns-then-from_saturated
-returns-then-from_saturated c = some_found (record { after = c.loop-p.invariant.0; inside = omega (arith, c.loop-p-test.true, c.word_at-p.ensures.0, c.word_at.ensures.0); whole = c.loop-p.invariant.1.0 }) (sym c.from_saturated.ensures ∙ c.if-from_saturated.true)
-
-pub loop-p-smaller : goal.loop-p-smaller
-loop-p-smaller c = omega (arith, c.loop-p-test.true)
+returns-then-from_saturated c = some_found (place (goal.at.returns-then-from_saturated c).In-loop-p) (sym c.from_saturated.ensures ∙ c.if-from_saturated.true)
 
 pub loop-p-preserved : goal.loop-p-preserved
-loop-p-preserved c = (omega (arith, c.loop-p.invariant.0), (omega (arith, c.loop-p.invariant.0, c.loop-p.invariant.1.0), none_more (record { after = c.loop-p.invariant.0; inside = omega (arith, c.loop-p-test.true, c.word_at-p.ensures.0, c.word_at.ensures.0); whole = c.loop-p.invariant.1.0 }) c.loop-p.invariant.1.1 (sym c.from_saturated.ensures ∙ c.if-from_saturated.false)))
+loop-p-preserved c = (omega (arith, c.loop-p.auto.p, c.word_at-first.ensures.0, c.loop-p.invariant.0), none_more (place (goal.at.loop-p-preserved c).In-loop-p) c.loop-p.invariant.1 (sym c.from_saturated.ensures ∙ c.if-from_saturated.false))
+
+pub returns-else-from_saturated : goal.returns-else-from_saturated
+returns-else-from_saturated c = none_ended (none_more (place (goal.at.returns-else-from_saturated c).In-loop-p) c.loop-p.invariant.1 (sym c.from_saturated.ensures ∙ c.if-from_saturated.false)) (omega (arith, c.word_at-first.ensures.0, c.word_at.ensures.0))
 
 pub returns : goal.returns
-returns c = none_ended c.loop-p.invariant.1.1 (omega (arith, c.loop-p-test.false, c.word_at-p.ensures.0, c.word_at.ensures.0))
+returns c = none_ended c.loop-p.invariant.1 (omega (arith, c.loop-p-test.false, c.word_at-first.ensures.0, c.word_at.ensures.0))

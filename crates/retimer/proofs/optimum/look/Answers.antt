@@ -1,5 +1,4 @@
 -- `optimum::look` meets its contract. Assumes nothing.
-use native.Mathlib.Omega.{arith}
 use borrow.Author.Tests.{not-true, not-false}
 use Rattle.retimer.proofs.Dating.{ahead_none, ahead_some}
 use Rattle.retimer.proofs.optimum.look.Goals as goal
@@ -7,9 +6,6 @@ use Rattle.retimer.proofs.optimum.look.Goals as goal
 pub returns-then-not-next : goal.returns-then-not-next
 returns-then-not-next c =
     ahead_none c.args.s.now c.args.cs.now c.args.k c.args.l c.args.r c.step-next.result c.step-next.ensures c.requires.0 (not-true _ c.if-not-next.true)
-
-pub cost-cost-requires : goal.cost-cost-requires
-cost-cost-requires c = let p = c.requires in (p.0, (omega (arith, p.1.0), c.step-next.ensures.standing))
 
 pub returns : goal.returns
 returns c =

@@ -1,8 +1,6 @@
 -- `reach::rate` meets its contract. By the accepting locations among the places reached, then by the live members of each set. Assumes nothing.
-use Rattle.retimer.proofs.Outlooks.{rate_correct, none_ends, dark_by}
+use Rattle.retimer.proofs.Outlooks.{rate_correct, none_ends}
 use Rattle.enforcement.proofs.Loading.{size_fits}
-use mathlib.Core.Path.{sym, ◌∙◌}
-use mathlib.Core.Bool.{false≢true}
 use native.Mathlib.Omega.{arith}
 use Rattle.retimer.proofs.reach.rate.Goals as goal
 
@@ -14,6 +12,3 @@ returns-then-found-accepting-ne0 c = rate_correct _ _ _ _ c.requires.1.reached c
 
 pub returns-then-any_live : goal.returns-then-any_live
 returns-then-any_live c = (none_ends _ _ _ _ c.requires.1.reached c.ranges.found.fits c.word_at-accepting.ensures.0 c.if-found-accepting-ne0.false, c.any_live.ensures.0 c.if-any_live.true)
-
-pub returns : goal.returns
-returns c = (λ w. false≢true (sym c.if-any_live.false ∙ c.any_live.ensures.1 w), dark_by c.any_live-2.result c.any_live-2.ensures)

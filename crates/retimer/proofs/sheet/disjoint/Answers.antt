@@ -1,27 +1,27 @@
--- `sheet::disjoint` meets its contract. The invariant: the transitions from p on decide, and left of them are in the bytes.
+-- `sheet::disjoint` meets its contract. The invariant: the transitions from the k-th on decide.
 -- Assumes nothing.
-use mathlib.Core.Path.{refl, ◌∙◌}
+use mathlib.Core.Path.{◌∙◌}
 use native.Mathlib.Omega.{arith}
-use Rattle.retimer.proofs.SheetLaws.{failed, passed, disjoint_each, each_none, each_stops, each_goes}
+use Rattle.retimer.proofs.SheetLaws.{failed, passed, after_step, disjoint_each, each_all, each_none, each_stops, each_goes}
 use Rattle.retimer.proofs.sheet.disjoint.Goals as goal
 
-pub loop-left-init : goal.loop-left-init
-loop-left-init c = (omega arith, refl)
+pub loop-k-init : goal.loop-k-init
+loop-k-init c = each_all disjoint_each c.args.s.now c.args.n c.args.first 0
 
 pub returns-then-not-overlaps_none : goal.returns-then-not-overlaps_none
 returns-then-not-overlaps_none c =
-    let s = c.args.s.now in
-    let r = c.loop-left in
-    each_stops disjoint_each s r.left r.p c.loop-left-test.true (failed c.overlaps_none.ensures c.if-not-overlaps_none.true) ∙ r.invariant.1
+    let a = c.args in
+    let r = c.loop-k in
+    each_stops disjoint_each a.s.now a.n a.first r.k (omega arith) (after_step a.s.now a.n a.first r.k ∙ failed c.overlaps_none.ensures c.if-not-overlaps_none.true) ∙ r.invariant
 
-pub loop-left-preserved : goal.loop-left-preserved
-loop-left-preserved c =
-    let s = c.args.s.now in
-    let r = c.loop-left in
-    (omega arith, each_goes disjoint_each s r.left r.p c.loop-left-test.true (passed c.overlaps_none.ensures c.if-not-overlaps_none.false) ∙ r.invariant.1)
+pub loop-k-preserved : goal.loop-k-preserved
+loop-k-preserved c =
+    let a = c.args in
+    let r = c.loop-k in
+    each_goes disjoint_each a.s.now a.n a.first r.k (omega arith) (after_step a.s.now a.n a.first r.k ∙ passed c.overlaps_none.ensures c.if-not-overlaps_none.false) ∙ r.invariant
 
 pub returns : goal.returns
 returns c =
-    let s = c.args.s.now in
-    let r = c.loop-left in
-    each_none disjoint_each s r.left r.p (omega arith) ∙ r.invariant.1
+    let a = c.args in
+    let r = c.loop-k in
+    each_none disjoint_each a.s.now a.n a.first r.k (omega arith) ∙ r.invariant

@@ -26,13 +26,13 @@ pub returns-then-not-disjoint : goal.returns-then-not-disjoint
 returns-then-not-disjoint c =
     let s = c.args.s.now in
     let r = c.loop-l in
-    disjoint_stops s c.wide-count.result r.l c.loop-l-test.true (disjoint_known s r.l _ _ (omega arith) c.word_at-first.ensures.0 c.word_at-n.ensures.0 ∙ failed c.disjoint.ensures c.if-not-disjoint.true) ∙ r.invariant.1
+    disjoint_stops s c.from-count.result r.l (omega arith) (disjoint_known s r.l _ _ (omega arith) c.word_at-first.ensures.0 c.word_at-n.ensures.0 ∙ failed c.disjoint.ensures c.if-not-disjoint.true) ∙ r.invariant.1
 
 pub loop-l-preserved : goal.loop-l-preserved
 loop-l-preserved c =
     let s = c.args.s.now in
     let r = c.loop-l in
-    (omega arith, disjoint_goes s c.wide-count.result r.l c.loop-l-test.true (disjoint_known s r.l _ _ (omega arith) c.word_at-first.ensures.0 c.word_at-n.ensures.0 ∙ passed c.disjoint.ensures c.if-not-disjoint.false) ∙ r.invariant.1)
+    (omega arith, disjoint_goes s c.from-count.result r.l (omega arith) (disjoint_known s r.l _ _ (omega arith) c.word_at-first.ensures.0 c.word_at-n.ensures.0 ∙ passed c.disjoint.ensures c.if-not-disjoint.false) ∙ r.invariant.1)
 
 pub returns : goal.returns
-returns c = disjoint_none c.args.s.now c.wide-count.result c.loop-l.l c.loop-l-test.false ∙ c.loop-l.invariant.1
+returns c = disjoint_none c.args.s.now c.from-count.result c.loop-l.l (omega arith) ∙ c.loop-l.invariant.1

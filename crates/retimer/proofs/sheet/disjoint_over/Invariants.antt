@@ -8,6 +8,3 @@ use Rattle.retimer.proofs.sheet.disjoint_over.Given as goal
 
 abbrev pub invariant-loop-l : goal.invariant-loop-l
 invariant-loop-l l = (l.l ≤ l.count) × (disjoint_over l.s (l.count - l.l) l.l ≡ disjoint_over l.s (locations l.s) 0)
-
-abbrev pub decreases-loop-l : goal.decreases-loop-l
-decreases-loop-l l = l.count - l.l

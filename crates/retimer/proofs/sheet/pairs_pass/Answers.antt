@@ -16,21 +16,21 @@ pub returns-then-word_at-end : goal.returns-then-word_at-end
 returns-then-word_at-end c =
     let r = c.loop-l in
     let s = c.args.s.now in
-    pairs_apart s c.wide-count.result r.l c.loop-l-test.true c.word_at.result r.end c.word_at.ensures.0 c.if-word_at-end.true ∙ r.invariant.1.1
+    pairs_apart s c.from-count.result r.l (omega arith) c.word_at.result r.end c.word_at.ensures.0 c.if-word_at-end.true ∙ r.invariant.1.1
 
 pub returns-then-size-ne0 : goal.returns-then-size-ne0
 returns-then-size-ne0 c =
     let r = c.loop-l in
     let s = c.args.s.now in
-    pairs_broken s c.wide-count.result r.l c.loop-l-test.true c.word_at.result r.end c.word_at.ensures.0 c.if-word_at-end.false c.word_at-size.result c.word_at-size.ensures.0 c.if-size-ne0.true ∙ r.invariant.1.1
+    pairs_broken s c.from-count.result r.l (omega arith) c.word_at.result r.end c.word_at.ensures.0 c.if-word_at-end.false c.word_at-size.result c.word_at-size.ensures.0 c.if-size-ne0.true ∙ r.invariant.1.1
 
 pub loop-l-preserved : goal.loop-l-preserved
 loop-l-preserved c =
     let r = c.loop-l in
     let s = c.args.s.now in
-    (omega arith, (omega arith, pairs_go s c.wide-count.result r.l c.loop-l-test.true c.word_at.result r.end c.word_at.ensures.0 c.if-word_at-end.false c.word_at-size.result c.word_at-size.ensures.0 c.if-size-ne0.false ∙ r.invariant.1.1))
+    (omega arith, (omega arith, pairs_go s c.from-count.result r.l (omega arith) c.word_at.result r.end c.word_at.ensures.0 c.if-word_at-end.false c.word_at-size.result c.word_at-size.ensures.0 c.if-size-ne0.false ∙ r.invariant.1.1))
 
 pub returns : goal.returns
 returns c =
     let r = c.loop-l in
-    pairs_end c.args.s.now c.wide-count.result r.l r.end c.loop-l-test.false ∙ r.invariant.1.1
+    pairs_end c.args.s.now c.from-count.result r.l r.end (omega arith) ∙ r.invariant.1.1

@@ -9,6 +9,3 @@ use Rattle.retimer.proofs.sheet.pairs_pass.Given as goal
 
 abbrev pub invariant-loop-l : goal.invariant-loop-l
 invariant-loop-l l = (l.l ≤ l.count) × ((l.end ≤ 6 + 4 * max_count + 65536 * l.l) × (pairs_pass l.s (l.count - l.l) l.l l.end ≡ pairs_pass l.s (locations l.s) 0 (6 + 4 * locations l.s)))
-
-abbrev pub decreases-loop-l : goal.decreases-loop-l
-decreases-loop-l l = l.count - l.l

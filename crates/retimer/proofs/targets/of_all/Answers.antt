@@ -12,26 +12,17 @@ use Rattle.retimer.proofs.targets.of_all.Goals.{then-has, else-has}
 pub bounds-s-0 : goal.bounds-s-0
 bounds-s-0 c = omega (arith, pairs_fit _ c.requires.0)
 
-pub loop-l-init : goal.loop-l-init
-loop-l-init c = all_begun
-
 pub has-requires : goal.has-requires
-has-requires c = omega (arith, c.wide-count.ensures.0, (header _ c.requires.0).locations_fit)
-
-pub of-found-requires : goal.of-found-requires
-of-found-requires c = (c.requires.0, omega (arith, c.wide-count.ensures.0, c.loop-l-test.true))
-
-pub overflow_add-l : goal.overflow_add-l
-overflow_add-l c = omega (arith, c.wide-count.ensures.1, c.loop-l-test.true)
+has-requires c = omega (arith, c.from-l-end.ensures, (header _ c.requires.0).locations_fit)
 
 pub loop-l-preserved : goal.loop-l-preserved
 loop-l-preserved c =
     let w = c.loop-l.invariant in
-    let i : c.loop-l.l < locations c.args.s.now = omega (arith, c.wide-count.ensures.0, c.loop-l-test.true) in
+    let i : c.loop-l.l < locations c.args.s.now = omega (arith, c.from-l-end.ensures, c.loop-l-test.true) in
     elim c.if-has.branch [
       | then-has t ↦ rw t.found-is (all_taken w i (sym c.has.ensures ∙ t.if-has.true) t.of-found.ensures)
       | else-has t ↦ rw t.found-is (all_passed w i (λ h. true_false h (sym c.has.ensures ∙ t.if-has.false)))
     ]
 
 pub returns : goal.returns
-returns c = all_done c.loop-l.invariant c.requires.0 c.requires.1 (omega (arith, c.wide-count.ensures.0, c.loop-l-test.false))
+returns c = all_done c.loop-l.invariant c.requires.0 c.requires.1 (omega (arith, c.from-l-end.ensures, c.loop-l-test.false))

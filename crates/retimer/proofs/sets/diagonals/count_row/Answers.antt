@@ -1,18 +1,11 @@
 -- `diagonals::count_row` meets its contract. The invariant: the readings that are not left are stored. The measure is their number as bits. Assumes nothing.
-use Rattle.retimer.proofs.sets.Counting.{storing_begun, lowest_small, lowest_diagonal, lowest_position, place_inside, storing_more, storing_ended}
+use Rattle.retimer.proofs.sets.Counting.{lowest_small, lowest_diagonal, lowest_position, place_inside, storing_more, storing_ended}
 use Rattle.enforcement.specs.Model.{width}
 use Rattle.retimer.specs.Counts.{diagonals}
 use Prim.Native.Nat.{ℕ, ◌+◌, ◌*◌, ◌-◌}
 use mathlib.Core.Path.{ap}
-use lib.Bits.{and_le_r}
 use native.Mathlib.Omega.{arith}
 use Rattle.retimer.proofs.sets.diagonals.count_row.Goals as goal
-
-pub loop-left-init : goal.loop-left-init
-loop-left-init c = storing_begun _ _ _ _ c.requires.1.1
-
-pub overflow_cast-x : goal.overflow_cast-x
-overflow_cast-x c = omega (arith, lowest_small _ _ _ _ _ _ c.loop-left.invariant c.loop-left-test.true)
 
 pub diagonal-requires : goal.diagonal-requires
 diagonal-requires c = (lowest_small _ _ _ _ _ _ c.loop-left.invariant c.loop-left-test.true, omega (arith, c.requires.1.0))
@@ -29,14 +22,8 @@ overflow_sub-counts c = omega (arith, c.position.ensures, lowest_position _ _ _ 
 pub bounds-counts-i : goal.bounds-counts-i
 bounds-counts-i c = omega (arith, c.diagonal.ensures, place_inside _ _ _ _ _ _ c.loop-left.invariant c.loop-left-test.true c.requires.0.0 c.requires.0.1 c.requires.1.0)
 
-pub loop-left-smaller : goal.loop-left-smaller
-loop-left-smaller c = omega (arith, and_le_r c.loop-left.left (c.loop-left.left - 1))
-
 pub loop-left-preserved : goal.loop-left-preserved
 loop-left-preserved c = storing_more _ _ _ _ _ _ c.loop-left.invariant c.loop-left-test.true _ _ c.requires.0.0 c.requires.0.1 c.requires.1.0 (ap (λ (n : ℕ). c.args.l * diagonals + n) c.diagonal.ensures) (ap (λ (n : ℕ). width - n) c.position.ensures)
-
-pub shape_of-counts : goal.shape_of-counts
-shape_of-counts c = c.loop-left.invariant.sized
 
 pub returns : goal.returns
 returns c = storing_ended c.loop-left.invariant c.loop-left-test.false

@@ -1,11 +1,6 @@
--- `diagonals::count_rows` meets its contract. The invariant: the rows before y are counted, and `before` is the row before y. The measure is what is left of the rows. Assumes nothing.
+-- `diagonals::count_rows` meets its contract. The invariant: the rows before y are counted, and `before` is the row before y. Assumes nothing.
 use Rattle.retimer.proofs.sets.Counting.{Counting}
-use Rattle.enforcement.specs.Model.{top}
-use Prim.Native.Nat.{◌-◌}
 use Rattle.retimer.proofs.sets.diagonals.count_rows.Given as goal
 
 abbrev pub invariant-loop-y : goal.invariant-loop-y
 invariant-loop-y l = Counting l.rows l.initial.counts l.counts l.l l.from l.y l.before
-
-abbrev pub decreases-loop-y : goal.decreases-loop-y
-decreases-loop-y l = top - l.y

@@ -7,4 +7,4 @@ pub returns-then-y-eq-TOP : goal.returns-then-y-eq-TOP
 returns-then-y-eq-TOP c = diagonal_top _ _ c.if-y-eq-TOP.true
 
 pub returns : goal.returns
-returns c = c.wide.ensures.0 ∙ diagonal_below _ _ c.if-y-eq-TOP.false
+returns c = c.from.ensures ∙ diagonal_below _ _ c.if-y-eq-TOP.false

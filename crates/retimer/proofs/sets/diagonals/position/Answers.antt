@@ -6,8 +6,5 @@ use Rattle.retimer.proofs.sets.diagonals.position.Goals as goal
 pub returns-then-y-eq-TOP : goal.returns-then-y-eq-TOP
 returns-then-y-eq-TOP c = position_top _ _ c.if-y-eq-TOP.true
 
-pub returns-then-y-x : goal.returns-then-y-x
-returns-then-y-x c = omega (arith, position_below c.args.x c.args.y c.if-y-eq-TOP.false, c.if-y-x.true)
-
 pub returns : goal.returns
-returns c = omega (arith, position_below c.args.x c.args.y c.if-y-eq-TOP.false, c.if-y-x.false)
+returns c = omega (arith, position_below c.args.x c.args.y c.if-y-eq-TOP.false)

@@ -4,49 +4,14 @@ use Rattle.retimer.proofs.sets.Firing.{fired_kept, fired_first, fired_second, fi
 use native.Mathlib.Omega.{arith}
 use Rattle.retimer.proofs.sets.fire.fire.Goals as goal
 
-pub fire_row-requires : goal.fire_row-requires
-fire_row-requires c = (c.requires, c.if-src-eq1.true)
-
-pub returns-then-src-eq1 : goal.returns-then-src-eq1
-returns-then-src-eq1 c = c.fire_row.ensures
-
-pub add-requires : goal.add-requires
-add-requires c =
-    let r = rows_allowed c.args.s.now _ _ c.requires.fits c.requires.source _ _ c.if-src-eq1.false c.wide-a.ensures.0 c.past-b.ensures in
-    let p = c.requires in
-    record { ordered = r.ordered; source = r.inside; target = omega (arith, r.inside, p.source, p.target); small = c.columns-cols.ensures.small; narrow = p.narrow }
-
 pub returns-then-set-eq0 : goal.returns-then-set-eq0
-returns-then-set-eq0 c = fired_kept _ _ _ _ _ c.columns-cols.ensures (rows_allowed c.args.s.now _ _ c.requires.fits c.requires.source _ _ c.if-src-eq1.false c.wide-a.ensures.0 c.past-b.ensures) c.requires.readings _ c.add.ensures.1 _ _ c.if-set-eq0.true c.add.ensures.0
-
-pub mark-requires : goal.mark-requires
-mark-requires c =
-    let r = rows_allowed c.args.s.now _ _ c.requires.fits c.requires.source _ _ c.if-src-eq1.false c.wide-a.ensures.0 c.past-b.ensures in
-    let p = c.requires in
-    record { ordered = r.ordered; source = r.inside; target = omega (arith, r.inside, p.source, p.target); small = c.columns-cols.ensures.small; narrow = p.narrow }
+returns-then-set-eq0 c = fired_kept _ _ _ _ _ c.columns-cols.ensures (rows_allowed c.args.s.now _ _ c.requires.fits c.requires.source _ _ c.if-src-eq1.false c.from-a.ensures c.past-b.ensures) c.requires.readings _ c.add.ensures.1 _ _ c.if-set-eq0.true c.add.ensures.0
 
 pub returns-then-set-eq1 : goal.returns-then-set-eq1
-returns-then-set-eq1 c = fired_first _ _ _ _ _ c.columns-cols.ensures (rows_allowed c.args.s.now _ _ c.requires.fits c.requires.source _ _ c.if-src-eq1.false c.wide-a.ensures.0 c.past-b.ensures) c.requires.readings _ c.mark.ensures.1 _ _ c.if-set-eq1.true c.mark.ensures.0
-
-pub union-any-requires : goal.union-any-requires
-union-any-requires c =
-    let r = rows_allowed c.args.s.now _ _ c.requires.fits c.requires.source _ _ c.if-src-eq1.false c.wide-a.ensures.0 c.past-b.ensures in
-    (r.ordered, (r.inside, c.columns-cols.ensures.small))
-
-pub start-requires : goal.start-requires
-start-requires c =
-    let r = rows_allowed c.args.s.now _ _ c.requires.fits c.requires.source _ _ c.if-src-eq1.false c.wide-a.ensures.0 c.past-b.ensures in
-    let p = c.requires in
-    (omega (arith, r.some, p.source, p.target), (c.union-any.ensures.small, p.narrow))
+returns-then-set-eq1 c = fired_first _ _ _ _ _ c.columns-cols.ensures (rows_allowed c.args.s.now _ _ c.requires.fits c.requires.source _ _ c.if-src-eq1.false c.from-a.ensures c.past-b.ensures) c.requires.readings _ c.mark.ensures.1 _ _ c.if-set-eq1.true c.mark.ensures.0
 
 pub returns-then-set-eq2 : goal.returns-then-set-eq2
-returns-then-set-eq2 c = fired_second _ _ _ _ _ c.columns-cols.ensures (rows_allowed c.args.s.now _ _ c.requires.fits c.requires.source _ _ c.if-src-eq1.false c.wide-a.ensures.0 c.past-b.ensures) c.requires.readings _ c.union-any.ensures _ _ c.if-set-eq2.true c.start.ensures
-
-pub start-requires-2 : goal.start-requires-2
-start-requires-2 c =
-    let r = rows_allowed c.args.s.now _ _ c.requires.fits c.requires.source _ _ c.if-src-eq1.false c.wide-a.ensures.0 c.past-b.ensures in
-    let p = c.requires in
-    (omega (arith, r.some, p.source, p.target), (c.flag.ensures.small, p.narrow))
+returns-then-set-eq2 c = fired_second _ _ _ _ _ c.columns-cols.ensures (rows_allowed c.args.s.now _ _ c.requires.fits c.requires.source _ _ c.if-src-eq1.false c.from-a.ensures c.past-b.ensures) c.requires.readings _ c.union-any.ensures _ _ c.if-set-eq2.true c.start.ensures
 
 pub returns : goal.returns
-returns c = fired_both _ _ _ _ _ c.columns-cols.ensures (rows_allowed c.args.s.now _ _ c.requires.fits c.requires.source _ _ c.if-src-eq1.false c.wide-a.ensures.0 c.past-b.ensures) c.requires.readings _ c.union-any.ensures _ _ _ c.flag.ensures (omega (arith, c.requires.fits.resets_fit, c.if-set-eq2.false, c.if-set-eq1.false, c.if-set-eq0.false)) c.start-2.ensures
+returns c = fired_both _ _ _ _ _ c.columns-cols.ensures (rows_allowed c.args.s.now _ _ c.requires.fits c.requires.source _ _ c.if-src-eq1.false c.from-a.ensures c.past-b.ensures) c.requires.readings _ c.union-any.ensures _ _ _ c.flag.ensures (omega (arith, c.requires.fits.resets_fit, c.if-set-eq2.false, c.if-set-eq1.false, c.if-set-eq0.false)) c.start-2.ensures

@@ -1,11 +1,8 @@
--- `lead::close` meets its contract. The invariant: the rows from y on have gained what they are to gain, the others are as they were. The measure is y. Assumes nothing.
+-- `lead::close` meets its contract. The invariant: the rows from y on have gained what they are to gain, the others are as they were. Assumes nothing.
 use Rattle.retimer.proofs.sets.Closing.{Closing}
 use Rattle.enforcement.specs.Model.{width}
 use Prim.Native.Nat.{◌≤◌, min}
 use Rattle.retimer.proofs.sets.lead.close.Given as goal
 
 abbrev pub invariant-loop-y : goal.invariant-loop-y
-invariant-loop-y l = (l.y ≤ width) × (Closing l.initial.rows l.rows l.l l.y l.row × (min l.from width ≤ l.y))
-
-abbrev pub decreases-loop-y : goal.decreases-loop-y
-decreases-loop-y l = l.y
+invariant-loop-y l = Closing l.initial.rows l.rows l.l l.y l.row × (min l.from width ≤ l.y)

@@ -1,13 +1,6 @@
 -- `meet::meets` meets its contract. By the rows of each location. Assumes nothing.
-use native.Mathlib.Omega.{arith}
 use Rattle.retimer.proofs.sets.Meeting.{rows_asked, all_covered, meets_members}
 use Rattle.retimer.proofs.sets.meet.meets.Goals as goal
-
-pub bounds-s-0 : goal.bounds-s-0
-bounds-s-0 c = omega (arith, c.requires.long)
-
-pub height-requires : goal.height-requires
-height-requires c = c.requires.long
 
 pub meets_in-requires : goal.meets_in-requires
 meets_in-requires c =

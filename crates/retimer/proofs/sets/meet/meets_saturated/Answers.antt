@@ -1,13 +1,7 @@
 -- `meet::meets_saturated` meets its contract. Assumes nothing.
-use Rattle.retimer.proofs.sets.Meeting.{saturated_none, least_small, saturated_right}
+use Rattle.retimer.proofs.sets.Meeting.{least_small, saturated_right}
 use native.Mathlib.Omega.{arith}
 use Rattle.retimer.proofs.sets.meet.meets_saturated.Goals as goal
-
-pub returns-then-row-eq0 : goal.returns-then-row-eq0
-returns-then-row-eq0 c = saturated_none c.args.counts.now c.args.l _ c.if-row-eq0.true
-
-pub overflow_cast-row : goal.overflow_cast-row
-overflow_cast-row c = omega (arith, least_small _ _ _ c.requires c.if-row-eq0.false)
 
 pub has-requires : goal.has-requires
 has-requires c = ((c.requires.sized, c.requires.in_range), (least_small _ _ _ c.requires c.if-row-eq0.false, omega arith))

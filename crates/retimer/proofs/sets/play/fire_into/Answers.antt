@@ -1,33 +1,18 @@
 -- `play::fire_into` meets its contract. The part of the set that is lent is the target's rows. Assumes nothing.
 use Rattle.retimer.proofs.sets.Parts.{span}
-use Rattle.retimer.proofs.sets.Setting.{target_small, into_fits, into_asked, into_some, into_none}
+use Rattle.retimer.proofs.sets.Setting.{target_small, into_asked, into_some, into_none}
 use native.Mathlib.Omega.{arith}
 use Rattle.retimer.proofs.sets.play.fire_into.Goals as goal
 
-pub overflow_mul-a : goal.overflow_mul-a
-overflow_mul-a c =
-    let z = into_fits _ _ _ _ _ c.requires.0 c.requires.1.1 c.wide-t.ensures.0 in
-    omega arith
-
-pub overflow_add-e : goal.overflow_add-e
-overflow_add-e c =
-    let z = into_fits _ _ _ _ _ c.requires.0 c.requires.1.1 c.wide-t.ensures.0 in
-    omega arith
-
-pub offset_bounds-next-a : goal.offset_bounds-next-a
-offset_bounds-next-a c =
-    let z = into_fits _ _ _ _ _ c.requires.0 c.requires.1.1 c.wide-t.ensures.0 in
-    omega arith
-
 pub fire-requires : goal.fire-requires
-fire-requires c = into_asked _ _ _ _ _ c.requires.0 c.requires.1.1 c.wide-t.ensures.0 _ (span _ _) c.requires.1.0
+fire-requires c = into_asked _ _ _ _ _ c.requires.0 c.requires.1.1 c.from-t.ensures _ (span _ _) c.requires.1.0
 
 pub overflow_shl-result : goal.overflow_shl-result
 overflow_shl-result c =
-    omega (arith, target_small _ _ _ _ _ c.requires.0 c.requires.1.1 c.wide-t.ensures.0)
+    omega (arith, target_small _ _ _ _ _ c.requires.0 c.requires.1.1 c.from-t.ensures)
 
 pub returns-then-fire : goal.returns-then-fire
-returns-then-fire c = into_some _ _ _ _ _ c.requires.0 c.requires.1.1 c.wide-t.ensures.0 _ (span _ _) _ _ c.fire.ensures c.if-fire.true
+returns-then-fire c = into_some _ _ _ _ _ c.requires.0 c.requires.1.1 c.from-t.ensures _ (span _ _) _ _ c.fire.ensures c.if-fire.true
 
 pub returns : goal.returns
-returns c = into_none _ _ _ _ _ c.requires.0 c.requires.1.1 c.wide-t.ensures.0 _ (span _ _) _ _ c.fire.ensures c.if-fire.false
+returns c = into_none _ _ _ _ _ c.requires.0 c.requires.1.1 c.from-t.ensures _ (span _ _) _ _ c.fire.ensures c.if-fire.false
