@@ -10,7 +10,7 @@ use product::join::Refusal;
 use retimer::reason::Reason;
 use retimer::sheet;
 
-// The number that a sheet's own refusal is handed out as.
+// The number that a sheet's own refusal is handed out as; the C interface has no enum.
 fn reason_result(r: Reason) -> i32
     ensures { result ≡ reason_result (reason_of r) }
 {

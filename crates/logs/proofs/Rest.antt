@@ -12,7 +12,7 @@ use Rattle.enforcement.specs.Automaton.{Bytes}
 use Rattle.enforcement.specs.TimedWord.{Event, dates_of}
 use Rattle.logs.specs.declared.format.Format.{Format}
 use Rattle.logs.specs.declared.record.Record.{Record}
-use Rattle.logs.specs.Log.{record_at, records_from, record_bytes, bytes_of, date_of, ticks_of, word_from, log_from, other}
+use Rattle.logs.specs.Log.{record_at, records_from, records_of, record_bytes, bytes_of, date_of, ticks_of, word_from, word_of, log_from, other}
 use Rattle.logs.specs.Conversion.{i_10, i_11, Outcome, converted, refused, check_from, output}
 use Rattle.logs.proofs.Checks.{late, falling, sound, Sound, is_sound}
 
@@ -25,6 +25,13 @@ check_rest f s k d = check_from k d (dates_of (word_rest f s k d))
 
 abbrev pub bytes_rest : Format → Format → Bytes → ℕ → ℕ → Bytes
 bytes_rest f g s k d = bytes_of (log_from g d (word_rest f s k d))
+
+-- From the first place on it is all.
+all_rest : (f : Format) (s : Bytes) → word_rest f s 0 0 ≡ word_of f (records_of s)
+all_rest f s = let z : length s / 5 - 0 ≡ length s / 5 = omega arith in ap (λ (n : ℕ). word_from f 0 (records_from s n 0)) z
+
+pub bytes_all : (f : Format) (s : Bytes) → bytes_rest f (other f) s 0 0 ≡ output f s
+bytes_all f s = ap (λ (w : List Event). bytes_of (log_from (other f) 0 w)) (all_rest f s)
 
 -- After the last place there is nothing.
 module _ (f : Format) (s : Bytes) (k d : ℕ) (h : length s / 5 ≤ k) where

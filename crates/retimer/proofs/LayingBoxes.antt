@@ -9,12 +9,12 @@ use native.Mathlib.Omega.{arith}
 use lib.Dec.{eqb}
 use lib.ListN.{length, get_or}
 use borrow.Author.Tests.{eqb-true, eqb-false}
-use Rattle.enforcement.specs.Automaton.{Transition, bit}
+use Rattle.enforcement.specs.Automaton.{Transition, bit, within}
 use Rattle.enforcement.specs.Loading.{Bounds}
 use Rattle.enforcement.specs.Model.{top, width}
 use Rattle.retimer.specs.Readings.{past}
-use Rattle.retimer.specs.Layers.{cell_of, cell, RowLowered}
-use Rattle.retimer.proofs.sets.Bounding.{past_ordered}
+use Rattle.retimer.specs.Layers.{cell_of, cell, RowLowered, BoxLowered}
+use Rattle.retimer.proofs.sets.Bounding.{enabled_tests, past_ordered, within_past, within_inside}
 use Rattle.retimer.proofs.CostLaws.{le_or_lt}
 
 -- A place of another row, or of another column, is not among those of a row.
@@ -47,6 +47,31 @@ pub record InBox (v : Transition) (other : List ℕ) (t m y : ℕ) (table table'
 
 module _ {v : Transition} (first : Bounds v.low1 v.high1) (second : Bounds v.low2 v.high2) {other : List ℕ} {t m : ℕ} {table : List ℕ} where
   module _ {y : ℕ} {table' : List ℕ} (w : InBox v other t m y table table') where
+    pub box_done : past v.high2 ≤ y → BoxLowered v other t m table table'
+    box_done h = record {
+      others = record { same_length = w.same_length; same = λ n x z f k l. w.rest (n * width + z) x k (away n z f l (le_or_lt n m)) };
+      lesser = w.lesser;
+      inside = λ x z k l e. let a = (enabled_tests v x z).passes e in let b = (within_past v.low1 v.high1 x k).1 a.0 in let d = (within_past v.low2 v.high2 z l).1 a.1 in w.done x z b.0 b.1 d.0 (omega (arith, d.1));
+      outside = λ x z k l e. w.rest (m * width + z) x k (out x z k l ((enabled_tests v x z).fails e) (le_or_lt v.low2 z) (le_or_lt (past v.high2) z) (le_or_lt v.low1 x) (le_or_lt (past v.high1) x));
+    }
+      where
+        far : past v.high2 ≤ width
+        far = (past_ordered v.low2 v.high2 second).1
+
+        Out : ℕ → ℕ → Type 0
+        Out r x = (r < m * width + v.low2) ⊎ (m * width + y ≤ r) ⊎ (x < v.low1) ⊎ (past v.high1 ≤ x)
+
+        away : (n z : ℕ) {x : ℕ} → (n ≡ m → ⊥) → z ≤ top → (n ≤ m) ⊎ (m < n) → Out (n * width + z) x
+        away n z f l (inl o) = let g : n < m = omega arith in inl (omega arith)
+        away n z f l (inr o) = let g = far in let k = w.not_past in inr (inl (omega arith))
+
+        out : (x z : ℕ) → x ≤ top → z ≤ top → ((within v.low1 v.high1 x ≡ true) × (within v.low2 v.high2 z ≡ true) → ⊥) → (v.low2 ≤ z) ⊎ (z < v.low2) → (past v.high2 ≤ z) ⊎ (z < past v.high2) → (v.low1 ≤ x) ⊎ (x < v.low1) → (past v.high1 ≤ x) ⊎ (x < past v.high1) → Out (m * width + z) x
+        out x z k l f (inr a) b c d = inl (omega arith)
+        out x z k l f (inl a) (inl b) c d = let g = w.not_past in inr (inl (omega arith))
+        out x z k l f (inl a) (inr b) (inr c) d = inr (inr (inl c))
+        out x z k l f (inl a) (inr b) (inl c) (inl d) = inr (inr (inr d))
+        out x z k l f (inl a) (inr b) (inl c) (inr d) = absurd (f (within_inside v.low1 v.high1 x c d k, within_inside v.low2 v.high2 z a b l))
+
     pub box_next : {next : List ℕ} {from to : ℕ} {spread : Bool} → y < past v.high2 → from ≡ cell_of t 0 (cond (bit v.resets 1) 0 y) → spread ≡ bit v.resets 0 → to ≡ cell_of m 0 y
         → RowLowered (λ i. get_or other (cond spread from (from + i)) 0) to v.low1 (past v.high1) table' next → InBox v other t m (y + 1) table next
     box_next {next} {from} {to} {spread} soon from_is spread-is to_is r = record {

@@ -6,16 +6,24 @@ use mathlib.Core.List.{List}
 use Prim.Native.Nat.{ℕ, ◌+◌, ◌-◌, ◌≤◌, ◌<◌}
 use native.Mathlib.Omega.{arith}
 use lib.Dec.{eqb}
-use lib.ListN.{length, get_or, set, drop, length-set}
+use lib.ListN.{length, get_or, set, drop, replicate, length-set, length-replicate}
 use lib.Seq.{drop-length, get_or-set_same, get_or-set_other}
 use borrow.Author.Tests.{eqb-true, eqb-false}
 use Rattle.enforcement.specs.Limits.{max_count}
-use Rattle.enforcement.specs.Automaton.{accepting}
+use Rattle.enforcement.specs.Automaton.{Bytes, accepting}
 use Rattle.enforcement.specs.Model.{top}
 use Rattle.enforcement.proofs.Loading.{header}
 use Rattle.retimer.specs.Readings.{located, Standing}
-use Rattle.retimer.specs.Costs.{never, cost_at, just_reset, place_of, next_at, location_at, reading_at, Known, Ground, Costed, AfterAsked}
+use Rattle.retimer.specs.Costs.{never, cost_at, just_reset, place_of, next_at, location_at, reading_at, places_for, Known, Ground, Costed, AfterAsked}
+use Rattle.retimer.proofs.Arrays.{zero_at}
 use Rattle.retimer.proofs.CostLaws.{end_cost}
+
+-- A memo of zeros knows nothing.
+pub known_none : (s : Bytes) (cs : List ℕ) (clock : Bool) (n : ℕ) → places_for (length cs) ≤ n → Known s cs clock (replicate n 0)
+known_none s cs clock n h = record { right = λ i g. absurd (none i g); places = rw length-replicate h }
+  where
+    none : (i : ℕ) → 0 < get_or (replicate n 0) i 0 → ⊥
+    none i g = omega (arith, zero_at n i)
 
 module _ {s cs : List ℕ} {k l z : ℕ} {first second : List ℕ} (a : AfterAsked s cs k l z first second) where
   in_count : l < max_count

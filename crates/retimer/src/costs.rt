@@ -215,9 +215,11 @@ fn leave<'a>(
 {
     let pair = 6 + 4 * usize::from(l);
     let start = bytes::word_at(s, pair);
-    let end = start + bytes::word_at(s, pair + 2);
+    let size = bytes::word_at(s, pair + 2);
     let mut found = front;
-    for p in (start..end).step_by(7) {
+    // No `step_by`, for the reason that `sets::play::play_at` has.
+    for i in 0..size / 7 {
+        let p = start + 7 * i;
         found = rule(s, cs, k, p, e, x, y, found, next, first, second);
     }
     found

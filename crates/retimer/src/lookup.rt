@@ -44,10 +44,12 @@ fn find(s: &[u8], c: u8, l: u8, r: [u8; 2]) -> Option<usize>
 {
     let pair = 6 + 4 * usize::from(l);
     let start = bytes::word_at(s, pair);
-    let end = start + bytes::word_at(s, pair + 2);
+    let size = bytes::word_at(s, pair + 2);
     let x = r[0];
     let y = r[1];
-    for p in (start..end).step_by(7) {
+    // No `step_by`, for the reason that `sets::play::play_at` has.
+    for k in 0..size / 7 {
+        let p = start + 7 * k;
         if applies(s, p, c, x, y) {
             return Some(p);
         }

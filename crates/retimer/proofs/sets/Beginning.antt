@@ -1,4 +1,4 @@
--- The set of one configuration, and the size of a set.
+-- The set of one configuration, empty sets, and the size of a set.
 -- Assumes nothing.
 use mathlib.Core.Path.{◌≡◌, refl, ap, sym, ◌∙◌, subst⁻¹}
 use mathlib.Core.Bool.{Bool, true, false, cond}
@@ -8,8 +8,8 @@ use Prim.Native.Nat.{ℕ, ◌+◌, ◌*◌, ◌%◌, ◌^◌, ◌≤◌, ◌<◌
 use native.Mathlib.Omega.{arith}
 use native.Mathlib.Nat.{one-mul}
 use lib.Dec.{eqb, ltb}
-use lib.ListN.{length, get_or, set, length-set}
-use lib.Seq.{get_or-set_same, get_or-set_other}
+use lib.ListN.{length, get_or, set, take, replicate, length-set, length-replicate, get_or-eq_default}
+use lib.Seq.{get_or-set_same, get_or-set_other, get_or-take, length-take-le}
 use lib.Pow.{pow_pos, pow-lt, shl_exact}
 use borrow.Author.Tests.{eqb-true, eqb-false, ltb-true, ltb-false}
 use Rattle.enforcement.specs.Limits.{max_count}
@@ -21,7 +21,8 @@ use Rattle.enforcement.proofs.Loading.{header}
 use Rattle.enforcement.proofs.Bits.{none_in, power_in}
 use Rattle.retimer.specs.Readings.{located, Standing}
 use Rattle.retimer.specs.Row.{In}
-use Rattle.retimer.specs.Sets.{second, height, at, Marked, Contains, Empty, Single}
+use Rattle.retimer.specs.Sets.{second, height, at, Marked, Contains, Whole, Empty, Single}
+use Rattle.retimer.proofs.Arrays.{zero_at}
 use Rattle.retimer.proofs.sets.Waiting.{in_same, narrow_set}
 use Rattle.retimer.proofs.sets.Parts.{rows_end}
 use Rattle.retimer.proofs.sets.Setting.{point, height_most, rows_inside}
@@ -122,6 +123,26 @@ module _ (s : Bytes) (l : ℕ) (r : List ℕ) (old : List ℕ) (h w y : ℕ) (b 
 
       found : {p : Configuration} → p ≡ located l r → Contains s (set old (w * h + i) v) p
       found e = subst⁻¹ (Contains s (set old (w * h + i) v)) (e ∙ here) (contains_at i_inside ((only l (get_or r 0 0) i i_inside).1 (sym here)))
+
+-- ---- Empty sets
+
+pub empty_whole : {s : Bytes} {old : List ℕ} → Empty s old → Whole s old
+empty_whole b = record { sized = b.sized; narrow = λ j. rw (b.empty j) (pow_pos width) }
+
+-- The first n of m zeros.
+module _ (n m : ℕ) (h : n ≤ m) where
+  abbrev zeros : List ℕ
+  zeros = replicate m 0
+
+  pub first_length : length (take n zeros) ≡ n
+  first_length = length-take-le n zeros (omega (arith, length-replicate {A = ℕ} m 0))
+
+  first_at : (i : ℕ) (b : Bool) → ltb i n ≡ b → get_or (take n zeros) i 0 ≡ 0
+  first_at i true z = get_or-take n zeros i 0 (ltb-true i n z) ∙ zero_at m i
+  first_at i false z = get_or-eq_default (take n zeros) 0 {n = i} (omega (arith, first_length, ltb-false i n z))
+
+  pub empty_front : (s : Bytes) → n ≡ locations s * height s → Empty s (take n zeros)
+  empty_front s e = record { sized = first_length ∙ e; empty = λ i. first_at i (ltb i n) refl }
 
 -- ---- The size of a set
 

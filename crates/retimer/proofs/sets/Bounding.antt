@@ -44,6 +44,15 @@ within_past low high x l = (λ u. test_true (within_tests low high x) (u.0, go (
     back false e (inl k) = absurd (eqb-false high 255 e k)
     back false e (inr k) = omega arith
 
+pub columns_right : (u : Transition) (a b v : ℕ) → Bounds u.low1 u.high1 → a ≡ u.low1 → b ≡ past u.high1 → Interval a b v → Columns u v
+columns_right u a b v h e f i = record {
+  small = i.small;
+  right = λ x. (
+    λ n. let w = (i.right x).0 n in let t : x ≤ top = omega (arith, w.1, f, (past_ordered u.low1 u.high1 h).1) in ((within_past u.low1 u.high1 x t).0 (omega (arith, w.0, e), omega (arith, w.1, f)), t),
+    λ n. let w = (within_past u.low1 u.high1 x n.1).1 n.0 in (i.right x).1 (omega (arith, w.0, e), omega (arith, w.1, f)),
+  );
+}
+
 pub within_inside : (low high x : ℕ) → low ≤ x → x < past high → x ≤ top → within low high x ≡ true
 within_inside low high x h g f = (within_past low high x f).0 (h, g)
 

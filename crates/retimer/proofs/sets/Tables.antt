@@ -34,6 +34,12 @@ slack_grows [] i v g = le_refl 0
 slack_grows (x ∷ t) zero v g = omega arith
 slack_grows (x ∷ t) (suc i) v g = omega (arith, slack_grows t i v g)
 
+-- A row that can't grow leaves the least slack.
+pub slack_full : (t : List ℕ) (i : ℕ) → slack (set t i (2 ^ 64 - 1)) ≤ slack t
+slack_full [] i = le_refl 0
+slack_full (x ∷ t) zero = omega arith
+slack_full (x ∷ t) (suc i) = omega (arith, slack_full t i)
+
 -- Rows of which none has more to gain than before, and one less.
 slack_most : (t u : List ℕ) → length u ≡ length t → ((j : ℕ) → 2 ^ 64 - 1 - get_or u j 0 ≤ 2 ^ 64 - 1 - get_or t j 0) → slack u ≤ slack t
 slack_most [] [] e f = le_refl 0

@@ -1,6 +1,6 @@
 -- Laws of waiting on a location's rows: the loop adds to each row the row before it a tick later, and the last row then grows upward.
 -- Assumes nothing.
-use mathlib.Core.Path.{◌≡◌, refl, ap, ap₂, sym, ◌∙◌, subst}
+use mathlib.Core.Path.{◌≡◌, refl, ap, ap₂, sym, ◌∙◌}
 use mathlib.Core.Bool.{Bool, true, false}
 use mathlib.Core.List.{List}
 use mathlib.Core.Logic.{◌⊎◌, inl, inr, ⊎_elim, ◌↔◌}
@@ -158,10 +158,3 @@ module _ (rows out : List ℕ) (row i : ℕ) (h : Narrow rows) (m : Sliding rows
 
     pub waited_ended : Waited rows (set out (length rows - 1) v)
     waited_ended = rw (← k) ended
-
--- One more row, by the count of those done.
-pub sliding_next : {rows out : List ℕ} {row n v : ℕ} → Narrow rows → 1 ≤ n → Sliding rows out row (n - 1) → TickAfter row v → n < length rows → Sliding rows (set out n (bit_or (get_or out n 0) v)) (bit_or (get_or out n 0) v) (n + 1 - 1)
-sliding_next {rows} {out} {row} {n} {v} h l m t k =
-    let e : n - 1 + 1 ≡ n = omega arith in
-    let f : n + 1 - 1 ≡ n = omega arith in
-    rw f (subst (λ (i : ℕ). Sliding rows (set out i (bit_or (get_or out i 0) v)) (bit_or (get_or out i 0) v) i) e (sliding_more rows out row (n - 1) h m v t (omega arith)))

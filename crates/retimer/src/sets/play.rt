@@ -30,9 +30,11 @@ fn play_at(s: &[u8], c: u8, l: usize, src: &[u64], next: &mut [u64]) -> u16
 {
     let pair = 6 + 4 * l;
     let first = bytes::word_at(s, pair);
-    let end = first + bytes::word_at(s, pair + 2);
+    let size = bytes::word_at(s, pair + 2);
     let mut found = 0u16;
-    for p in (first..end).step_by(7) {
+    // No `step_by`: most transitions are passed over, and that would make each cost more than half as much again.
+    for k in 0..size / 7 {
+        let p = first + 7 * k;
         if s[p] == c {
             found = found | fire_into(s, p, src, next);
         }

@@ -1,7 +1,7 @@
 -- The search along chains gives the least ticks and keeps the memos right. It falls by the actions left, then by the order after, chain, play, leave, rule, over.
 -- Assumes nothing.
 use native.Mathlib.Omega.{arith}
-use mathlib.Core.Path.{refl, ap, ◌∙◌}
+use mathlib.Core.Path.{◌≡◌, refl, ap, ◌∙◌}
 use mathlib.Core.Bool.{cond}
 use lib.ListN.{get_or}
 use Rattle.enforcement.specs.Automaton.{accepting, transition_at}
@@ -11,7 +11,7 @@ use Rattle.retimer.proofs.CostLaws.{cost_most}
 use Rattle.retimer.proofs.Memos.{place_asked, place_inside, known_cost, noted_first, noted_second}
 use Rattle.retimer.proofs.Rules.{rule_last, rule_on, over_asked, rule_reset}
 use Rattle.retimer.proofs.Searching.{over_cut, over_next, leave_begun, leave_searching, leave_inside, leave_fits, leave_next, leave_done, play_begun, play_searching, lowest_in, play_next, play_done, chain_begun, chain_next, chain_done}
-use Prim.Native.Nat.{ℕ, ◌+◌}
+use Prim.Native.Nat.{ℕ, ◌+◌, ◌*◌, ◌<◌}
 use Rattle.retimer.proofs.costs.+after_chain_leave_over_play_rule.Goals.{after-then-clock, after-else-clock}
 use Rattle.retimer.proofs.costs.+after_chain_leave_over_play_rule.Goals as goal
 
@@ -78,24 +78,33 @@ chain-returns t c = chain_done c.requires.0 c.loop-front.invariant c.loop-front-
 pub leave-word_at-start-requires : goal.leave-word_at-start-requires
 leave-word_at-start-requires t c = let b = c.requires in omega (arith, c.from.ensures, b.1.1, pairs_fit c.args.s.now b.0.ground.loads)
 
-pub leave-word_at-requires : goal.leave-word_at-requires
-leave-word_at-requires t c = let b = c.requires in omega (arith, c.from.ensures, b.1.1, pairs_fit c.args.s.now b.0.ground.loads)
+pub leave-word_at-size-requires : goal.leave-word_at-size-requires
+leave-word_at-size-requires t c = let b = c.requires in omega (arith, c.from.ensures, b.1.1, pairs_fit c.args.s.now b.0.ground.loads)
 
-pub leave-loop-p-init : goal.leave-loop-p-init
-leave-loop-p-init t c =
-    leave_begun c.requires.0 c.requires.1.0 c.requires.1.1 c.from.ensures c.word_at-start.ensures.0 c.word_at.ensures.0
+pub leave-loop-i-init : goal.leave-loop-i-init
+leave-loop-i-init t c =
+    let here : c.word_at-start.result + 0 ≡ c.word_at-start.result = omega arith in
+    rw here (leave_begun c.requires.0 c.requires.1.0 c.requires.1.1 c.from.ensures c.word_at-start.ensures.0 c.word_at-size.ensures.0)
 
 pub leave-rule-found-requires : goal.leave-rule-found-requires
 leave-rule-found-requires t c =
-    let h = c.loop-p.invariant in
+    let h = c.loop-i.invariant in
     let a = c.requires.0 in
-    (omega (arith, c.decreases), (leave_searching a h, (h.chain, (leave_inside a h c.loop-p-test.true, leave_fits a h c.loop-p-test.true))))
+    let inside : c.word_at-start.result + 7 * c.loop-i.i < c.word_at-start.result + c.word_at-size.result = omega (arith, c.loop-i-test.true) in
+    (omega (arith, c.decreases), (leave_searching a h, (h.chain, (leave_inside a h inside, leave_fits a h inside))))
 
-pub leave-loop-p-preserved : goal.leave-loop-p-preserved
-leave-loop-p-preserved t c = let f = c.rule-found in leave_next c.requires.0 c.loop-p.invariant c.loop-p-test.true f.ensures f.auto.next f.auto.first f.auto.second
+pub leave-loop-i-preserved : goal.leave-loop-i-preserved
+leave-loop-i-preserved t c =
+    let f = c.rule-found in
+    let inside : c.word_at-start.result + 7 * c.loop-i.i < c.word_at-start.result + c.word_at-size.result = omega (arith, c.loop-i-test.true) in
+    let next : c.word_at-start.result + 7 * (c.loop-i.i + 1) ≡ c.word_at-start.result + 7 * c.loop-i.i + 7 = omega arith in
+    rw next (leave_next c.requires.0 c.loop-i.invariant inside f.ensures f.auto.next f.auto.first f.auto.second)
 
 pub leave-returns : goal.leave-returns
-leave-returns t c = leave_done c.requires.0 c.loop-p.invariant c.loop-p-test.false
+leave-returns t c =
+    let h = c.loop-i.invariant in
+    let w = h.left 0 (omega arith) in
+    leave_done c.requires.0 h (omega (arith, c.loop-i-test.false, w.before, w.whole))
 
 pub over-returns-then-v-u : goal.over-returns-then-v-u
 over-returns-then-v-u t c = over_cut c.requires c.loop-i.invariant (omega (arith, c.if-v-u.true))
@@ -153,6 +162,3 @@ rule-over-best-requires t c =
 pub rule-returns : goal.rule-returns
 rule-returns t c =
     rule_reset c.requires.0 c.requires.1.0 (transition_at c.args.s.now c.args.p) c.args.e c.first_wait.ensures c.max-from.ensures c.end_wait-end.ensures c.if-s-p.false c.if-end-from.false c.requires.1.1.1 c.if-k-cs.false c.if-set-eq0.false c.kept-z.ensures.0 c.kept-z.ensures.1 c.worth-n.ensures c.over-best.ensures
-
-pub leave-returns-2 : goal.leave-returns-2
-leave-returns-2 t c = let f = c.rule-found in leave_done c.requires.0 (leave_next c.requires.0 c.loop-p.invariant c.loop-p-test.true f.ensures f.auto.next f.auto.first f.auto.second) (omega arith)

@@ -29,11 +29,8 @@ invariant-chain-loop-front l = InChain l.s l.cs l.k l.l l.x l.y l.initial.first 
 abbrev pub decreases-chain-loop-front : goal.decreases-chain-loop-front
 decreases-chain-loop-front l = length l.cs - l.i
 
-abbrev pub invariant-leave-loop-p : goal.invariant-leave-loop-p
-invariant-leave-loop-p l = InLeave l.s l.cs l.k l.l l.e l.x l.y l.initial.next l.initial.found.places l.initial.found.best l.initial.first l.initial.second l.end l.next l.first l.second l.p l.found.places l.found.best
-
-abbrev pub decreases-leave-loop-p : goal.decreases-leave-loop-p
-decreases-leave-loop-p l = l.end - l.p
+abbrev pub invariant-leave-loop-i : goal.invariant-leave-loop-i
+invariant-leave-loop-i l = InLeave l.s l.cs l.k l.l l.e l.x l.y l.initial.next l.initial.found.places l.initial.found.best l.initial.first l.initial.second (l.start + l.size) l.next l.first l.second (l.start + 7 * l.i) l.found.places l.found.best
 
 abbrev pub invariant-over-loop-i : goal.invariant-over-loop-i
 invariant-over-loop-i l = InOver l.s l.cs l.k l.t l.clock l.z l.n l.from l.best l.initial.first l.initial.second l.first l.second l.v l.i

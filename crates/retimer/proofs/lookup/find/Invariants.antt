@@ -1,10 +1,7 @@
--- `lookup::find` meets its contract. The invariant: the step is that of the first transition from p on that applies. The measure is what is left of the places. Assumes nothing.
+-- `lookup::find` meets its contract. The invariant: the step is that of the first transition from the next one on that applies. Assumes nothing.
 use Rattle.retimer.proofs.Transitions.{Remaining}
-use Prim.Native.Nat.{◌-◌}
+use Prim.Native.Nat.{◌+◌, ◌*◌}
 use Rattle.retimer.proofs.lookup.find.Given as goal
 
-abbrev pub invariant-loop-p : goal.invariant-loop-p
-invariant-loop-p l = Remaining l.s l.c (record { location = l.l; x = l.x; y = l.y }) l.p l.end
-
-abbrev pub decreases-loop-p : goal.decreases-loop-p
-decreases-loop-p l = l.end - l.p
+abbrev pub invariant-loop-k : goal.invariant-loop-k
+invariant-loop-k l = Remaining l.s l.c (record { location = l.l; x = l.x; y = l.y }) (l.start + 7 * l.k) (l.start + l.size)
